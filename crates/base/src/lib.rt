@@ -1,0 +1,33 @@
+// Bytes and values: what every reader of a file takes apart.
+ghost use mathlib.Core.Path.{_≡_};
+ghost use Prim.Native.Nat.{_<_};
+ghost use lib.ListN.{getD};
+ghost use Rattle.base.specs.Value.{valueAt};
+
+// A byte as a wider number.
+pub fn wide(x: u8) -> u32
+    ensures { λ r. ⌜ (r ≡ x) × (r < 256) ⌝ }
+{
+    x as u32
+}
+
+// The byte at an offset, 0 past the end.
+pub fn byte_at(b: &[u8], at: usize) -> u32
+    ensures { λ r. ⌜ (r ≡ getD (now (b .entry)) at 0) × (r < 256) ⌝ }
+{
+    if at < b.len() { wide(b[at]) } else { 0 }
+}
+
+// The value of 4 bytes, big-endian, that begins at an offset.
+pub fn value_at(b: &[u8], at: usize) -> u32
+    ensures { λ r. ⌜ r ≡ valueAt (now (b .entry)) at ⌝ }
+{
+    if at < b.len() {
+        byte_at(b, at) * 16777216
+            + byte_at(b, at + 1) * 65536
+            + byte_at(b, at + 2) * 256
+            + byte_at(b, at + 3)
+    } else {
+        0
+    }
+}

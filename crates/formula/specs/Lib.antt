@@ -1,0 +1,2 @@
+-- Definitions of the formula: syntax, encoding, correct formulas, reading.
+pub mod Formula

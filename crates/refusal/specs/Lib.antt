@@ -1,0 +1,2 @@
+-- Definitions of the refusals.
+pub mod Refusals

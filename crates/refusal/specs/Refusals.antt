@@ -1,0 +1,31 @@
+-- "An answer names the file (1 log, 2 formula, 3 the call), the number and the place": the table of refusals, by cases.
+use Prim.Native.Nat.{ℕ}
+use Rattle.refusal.specs.declared.File.{File}
+use Rattle.refusal.specs.declared.File.the-variants.{Log, Formula, Call}
+use Rattle.refusal.specs.declared.Refusal.{Refusal}
+use Rattle.refusal.specs.declared.Refusal.the-variants.{CutShort, Foreign, Value, Surplus, Leftover, StepBack, DeadStart, Unbound, Outside, Short, Crowded}
+use Rattle.refusal.specs.declared.Report.{Report}
+
+-- "the file (1 log, 2 formula, 3 the call)"
+abbrev pub fileNumber : File → ℕ
+fileNumber Log = 1
+fileNumber Formula = 2
+fileNumber Call = 3
+
+-- a line of the table: file, number and place
+abbrev pub line : ℕ → ℕ → ℕ → Report
+line f n p = record { file = f; number = n; place = p }
+
+-- The table of refusals, a line each
+abbrev pub reportOf : Refusal → Report
+reportOf (CutShort f p) = line (fileNumber f) 1 p
+reportOf (Foreign f p) = line (fileNumber f) 2 p
+reportOf (Value f p) = line (fileNumber f) 3 p
+reportOf (Surplus f p) = line (fileNumber f) 4 p
+reportOf (Leftover f p) = line (fileNumber f) 5 p
+reportOf (StepBack p) = line 1 6 p
+reportOf DeadStart = line 2 7 0
+reportOf (Unbound p) = line 2 8 p
+reportOf (Outside s) = line 3 9 s
+reportOf (Short n) = line 3 10 n
+reportOf (Crowded p) = line 3 11 p

@@ -1,0 +1,117 @@
+// Refusals: what a file or a call is refused with, and the file, number and place that an answer names.
+ghost use mathlib.Core.Path.{_≡_};
+ghost use Rattle.refusal.specs.Refusals.{reportOf};
+
+// What a refusal speaks of.
+pub enum File {
+    Log,
+    Formula,
+    Call,
+}
+
+// One case for each refusal, in the order of their numbers. A place in a file is the offset of a command's first byte.
+pub enum Refusal {
+    // 1: operands run past the end; with END missing, the file length
+    CutShort { file: File, place: usize },
+    // 2: unknown command, or one not allowed there
+    Foreign { file: File, place: usize },
+    // 3: a kind, operator, field, variable or state that does not exist
+    Value { file: File, place: usize },
+    // 4: one over a stated count or depth
+    Surplus { file: File, place: usize },
+    // 5: bytes after END; the first of them
+    Leftover { file: File, place: usize },
+    // 6: a rising field falls; its EVENT
+    StepBack { place: usize },
+    // 7: state 0 accepts or rejects
+    DeadStart,
+    // 8: a TESTV or VAR of an unbound variable
+    Unbound { place: usize },
+    // 9: the start is not below the event count
+    Outside { start: usize },
+    // 10: too few words lent; the words needed
+    Short { needed: usize },
+    // 11: more configurations wait than there are seats
+    Crowded { place: usize },
+}
+
+// What an answer names: the file (1 log, 2 formula, 3 the call), the number and the place.
+pub struct Report {
+    pub file: usize,
+    pub number: usize,
+    pub place: usize,
+}
+
+// The file's number.
+fn file_number(f: File) -> usize
+    ensures { λ r. ⌜ r ≡ Rattle.refusal.specs.Refusals.fileNumber f ⌝ }
+{
+    match f {
+        File::Log => 1,
+        File::Formula => 2,
+        File::Call => 3,
+    }
+}
+
+// File, number and place of a refusal.
+pub fn report_of(r: Refusal) -> Report
+    ensures { λ t. ⌜ t ≡ reportOf r ⌝ }
+{
+    match r {
+        Refusal::CutShort { file, place } => Report {
+            file: file_number(file),
+            number: 1,
+            place,
+        },
+        Refusal::Foreign { file, place } => Report {
+            file: file_number(file),
+            number: 2,
+            place,
+        },
+        Refusal::Value { file, place } => Report {
+            file: file_number(file),
+            number: 3,
+            place,
+        },
+        Refusal::Surplus { file, place } => Report {
+            file: file_number(file),
+            number: 4,
+            place,
+        },
+        Refusal::Leftover { file, place } => Report {
+            file: file_number(file),
+            number: 5,
+            place,
+        },
+        Refusal::StepBack { place } => Report {
+            file: 1,
+            number: 6,
+            place,
+        },
+        Refusal::DeadStart => Report {
+            file: 2,
+            number: 7,
+            place: 0,
+        },
+        Refusal::Unbound { place } => Report {
+            file: 2,
+            number: 8,
+            place,
+        },
+        Refusal::Outside { start } => Report {
+            file: 3,
+            number: 9,
+            place: start,
+        },
+        Refusal::Short { needed } => Report {
+            file: 3,
+            number: 10,
+            place: needed,
+        },
+        Refusal::Crowded { place } => Report {
+            file: 3,
+            number: 11,
+            place,
+        },
+    }
+}
