@@ -1,11 +1,52 @@
 -- Laws on lists that several layers cite.
-use Prim.Native.Nat.{ℕ, _+_, _<_}
-use mathlib.Core.Path.{_≡_}
-use mathlib.Core.List.{List, _∷_}
+use Prim.Native.Nat.{ℕ, zero, suc, _+_, _<_, _≤_}
+use mathlib.Core.Path.{_≡_, refl, ap}
+use mathlib.Core.List.{List, [], _∷_, _++_, append-nil, append-assoc, flatMap}
 use native.Mathlib.Numerals.{add-one}
-use lib.ListN.{length, getD, drop}
+use native.Mathlib.Omega.{arith}
+use lib.ListN.{length, getD, drop, set, replicate}
 use lib.Seq.{drop-cons}
+use Rattle.base.specs.Lists.{All, pad}
 
 -- a list from `at` on is the element there and the list from the next place on
 pub drop-next : (l : List ℕ) (at : ℕ) → at < length l → drop at l ≡ getD l at 0 ∷ drop (at + 1) l
 drop-next l at h = rw (add-one, drop-cons l at 0)
+
+module _ {A : Type 0} where
+  pub length-pad : (n : ℕ) (d : A) (xs : List A) → length (pad n d xs) ≡ n
+  unfolding pad
+  length-pad zero d xs = refl
+  length-pad (suc n) d [] = ap suc (length-pad n d [])
+  length-pad (suc n) d (x ∷ xs) = ap suc (length-pad n d xs)
+
+  -- padding does not change what is read
+  pub getD-pad : (n : ℕ) (d : A) (xs : List A) (k : ℕ) → k < n → getD (pad n d xs) k d ≡ getD xs k d
+  unfolding pad
+  getD-pad zero d xs k h = absurd (omega arith)
+  getD-pad (suc n) d [] zero h = refl
+  getD-pad (suc n) d [] (suc k) h = getD-pad n d [] k (omega arith)
+  getD-pad (suc n) d (x ∷ xs) zero h = refl
+  getD-pad (suc n) d (x ∷ xs) (suc k) h = getD-pad n d xs k (omega arith)
+
+  -- storing behind the last element adds one
+  pub set-pad : (n : ℕ) (d : A) (xs : List A) (y : A) → length xs < n → set (pad n d xs) (length xs) y ≡ pad n d (xs ++ (y ∷ []))
+  unfolding pad
+  set-pad zero d xs y h = absurd (omega arith)
+  set-pad (suc n) d [] y h = refl
+  set-pad (suc n) d (x ∷ xs) y h = ap (λ l. x ∷ l) (set-pad n d xs y (omega arith))
+
+  -- what holds of every element of two lists holds of every element of both in a row
+  pub All-append : (P : A → Type 0) (xs ys : List A) → All P xs → All P ys → All P (xs ++ ys)
+  All-append P [] ys h k = k
+  All-append P (x ∷ xs) ys h k = (h .0, All-append P xs ys (h .1) k)
+
+module _ {A B : Type 0} (f : A → List B) where
+  pub flatMap-append : (xs ys : List A) → flatMap f (xs ++ ys) ≡ flatMap f xs ++ flatMap f ys
+  unfolding flatMap
+  flatMap-append [] ys = refl
+  flatMap-append (x ∷ xs) ys = rw (flatMap-append xs ys, append-assoc)
+
+  -- one element more adds its part at the end
+  pub flatMap-more : (xs : List A) (x : A) → flatMap f (xs ++ (x ∷ [])) ≡ flatMap f xs ++ f x
+  unfolding flatMap
+  flatMap-more xs x = rw (flatMap-append xs (x ∷ []), append-nil (f x))

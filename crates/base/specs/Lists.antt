@@ -1,5 +1,5 @@
--- Predicates on lists.
-use Prim.Native.Nat.{ℕ, _<_}
+-- Predicates on lists, and lists of a fixed length as arrays hold them.
+use Prim.Native.Nat.{ℕ, zero, suc, _<_}
 use mathlib.Core.List.{List, [], _∷_}
 
 -- every element of the list has the property
@@ -10,3 +10,9 @@ All P (x ∷ xs) = P x × All P xs
 -- a list of bytes
 abbrev pub Bytes : List ℕ → Type 0
 Bytes = All (λ b. b < 256)
+
+-- the first n elements; where there are fewer, d for each that is missing
+unfoldable pub pad : {A : Type 0} → ℕ → A → List A → List A
+pad zero d xs = []
+pad (suc n) d [] = d ∷ pad n d []
+pad (suc n) d (x ∷ xs) = x ∷ pad n d xs
