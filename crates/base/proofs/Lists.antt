@@ -4,7 +4,7 @@ use mathlib.Core.Path.{_≡_, refl, ap}
 use mathlib.Core.List.{List, [], _∷_, _++_, append-nil, append-assoc, flatMap}
 use native.Mathlib.Numerals.{add-one}
 use native.Mathlib.Omega.{arith}
-use lib.ListN.{length, getD, drop, set, replicate}
+use lib.ListN.{length, getD, drop, set}
 use lib.Seq.{drop-cons}
 use Rattle.base.specs.Lists.{All, pad}
 
@@ -39,6 +39,12 @@ module _ {A : Type 0} where
   pub All-append : (P : A → Type 0) (xs ys : List A) → All P xs → All P ys → All P (xs ++ ys)
   All-append P [] ys h k = k
   All-append P (x ∷ xs) ys h k = (h .0, All-append P xs ys (h .1) k)
+
+  -- what holds of every element holds of the one at an index
+  pub All-at : (P : A → Type 0) (xs : List A) (n : ℕ) (d : A) → All P xs → n < length xs → P (getD xs n d)
+  All-at P [] n d h k = absurd (omega arith)
+  All-at P (x ∷ xs) zero d h k = h .0
+  All-at P (x ∷ xs) (suc n) d h k = All-at P xs n d (h .1) (omega arith)
 
 module _ {A B : Type 0} (f : A → List B) where
   pub flatMap-append : (xs ys : List A) → flatMap f (xs ++ ys) ≡ flatMap f xs ++ flatMap f ys
