@@ -1,0 +1,102 @@
+-- The definitions compute: M12 of the paper, and two runs that end on one event, of which the longer comes first.
+use mathlib.Core.Path.{_≡_, refl, sym}
+use mathlib.Core.Bool.{Bool, true, false, _&&_, Bool·beq, false≢true}
+use mathlib.Core.Option.{Option, none, some, Option·some-injective}
+use mathlib.Core.List.{[], _∷_}
+use Prim.Native.Nat.{ℕ, zero, suc}
+use lib.Dec.{eqb}
+use borrow.Author.Tests.{eqb-true, eq-eqb}
+use Rattle.runs.specs.Machine.{Machine, Laws}
+use Rattle.runs.specs.Lists.{keep, gather, has, distinct}
+use Rattle.runs.specs.Order.{lex, order}
+use Rattle.runs.specs.Search.{found, absent, crowded, firing, moves, stays, unended, offers, next, endings, lesser, leastFrom, least, anyAlive, hopeful, waiting, waitingCount, scan, origin, search}
+use Rattle.runs.specs.Threads.{candidates, insert, insertWithin, follow, threads}
+
+-- 'three events; ordinary state 0 with a bare step to ordinary state 1, which has a bare step to itself': a configuration is
+-- told by the number of steps taken
+abbrev bare : Machine
+bare =
+    record {
+      Config = ℕ;
+      same = eqb;
+      start = 0;
+      committed = λ c. false;
+      final = λ c. false;
+      fire = λ c n k. some (suc c);
+      expired = λ c k n. false;
+      steps = 1;
+      events = 3;
+    }
+
+-- it keeps the laws, so they can be met
+bare-laws : Laws bare
+bare-laws =
+    record {
+      same-equal = eqb-true;
+      equal-same = λ c. eq-eqb c c refl;
+      Valid = λ c. Unit {0};
+      valid-start = tt;
+      valid-fire = λ c d n k v e. tt;
+      start-open = refl;
+      first = 0;
+      stable = λ c k n m v f l b e. e;
+      silent = λ c k n m v f l b e. absurd (false≢true e);
+      weight = λ c. c;
+      weight-start = refl;
+      weight-fire = λ c d n k e. sym (Option·some-injective (suc c) d e);
+    }
+
+-- 'from 0, two seats give 11 at event 2; three give none, width 3'
+two-slots : search bare 2 0 ≡ crowded 2
+unfolding keep gather lex order firing moves stays unended offers next endings lesser leastFrom least anyAlive hopeful origin has distinct waiting waitingCount scan search
+two-slots = refl
+
+three-slots : search bare 3 0 ≡ absent 3
+unfolding keep gather lex order firing moves stays unended offers next endings lesser leastFrom least anyAlive hopeful origin has distinct waiting waitingCount scan search
+three-slots = refl
+
+two-threads : threads bare 2 0 ≡ crowded 2
+unfolding keep gather lex order firing moves stays unended offers next endings lesser leastFrom least anyAlive hopeful origin candidates insert insertWithin follow threads
+two-threads = refl
+
+three-threads : threads bare 3 0 ≡ absent 3
+unfolding keep gather lex order firing moves stays unended offers next endings lesser leastFrom least anyAlive hopeful origin candidates insert insertWithin follow threads
+three-threads = refl
+
+-- on three events, step 0 always fires and goes on, step 1 fires on event 2 and ends: a configuration is told by the number
+-- of steps taken and by whether it has ended
+record Place : Type 0 where
+  taken : ℕ
+  over : Bool
+
+abbrev ends : Place → Bool → Option Place
+ends c true = some (record { taken = suc (c .taken); over = true })
+ends c false = none
+
+abbrev goes : Place → ℕ → ℕ → Option Place
+goes c n zero = some (record { taken = suc (c .taken); over = false })
+goes c n (suc k) = ends c (eqb n 2)
+
+abbrev late : Machine
+late =
+    record {
+      Config = Place;
+      same = λ c d. eqb (c .taken) (d .taken) && Bool·beq (c .over) (d .over);
+      start = record { taken = 0; over = false };
+      committed = λ c. false;
+      final = λ c. c .over;
+      fire = goes;
+      expired = λ c k n. false;
+      steps = 2;
+      events = 3;
+    }
+
+-- events 0, 1, 2 come before events 0, 2; two wait after event 1
+longer-first : search late 2 0 ≡ found (record { taken = 3; over = true }) (record { event = 0; step = 0 } ∷ (record { event = 1; step = 0 } ∷ (record { event = 2; step = 1 } ∷ []))) 2
+unfolding keep gather lex order firing moves stays unended offers next endings lesser leastFrom least anyAlive hopeful origin has distinct waiting waitingCount scan search
+longer-first = refl
+
+-- with one slot the search is crowded after event 1
+one-slot : threads late 1 0 ≡ crowded 1
+unfolding keep gather lex order firing moves stays unended offers next endings lesser leastFrom least anyAlive hopeful origin candidates insert insertWithin follow threads
+one-slot = refl

@@ -1,0 +1,16 @@
+pub mod Lists
+pub mod Comparison
+pub mod Trails
+pub mod Moves
+pub mod Least
+pub mod Reach
+pub mod Meets
+pub mod Unique
+pub mod Exactly
+pub mod Insert
+pub mod Select
+pub mod Within
+pub mod Growth
+pub mod Inserting
+pub mod Loop
+mod Example

@@ -1,0 +1,241 @@
+-- One least thread a configuration stands for all live threads: the same endings, the same count, event after event. So
+-- the list of threads gives the definition's answer.
+use mathlib.Core.Path.{_≡_, refl, sym, ap, ap₂, _∙_, subst}
+use mathlib.Core.Logic.{_⊎_, inl, inr}
+use mathlib.Core.Bool.{Bool, true, false, true≢false}
+use mathlib.Core.Option.{Option, none, some}
+use mathlib.Core.List.{List, [], _∷_, _++_, map, List·Memᴰ·not-nil}
+use Prim.Native.Nat.{ℕ, zero, suc, _+_, _-_, _≤_, _<_, zero-le, max}
+use native.Mathlib.Nat.{le-refl}
+use native.Mathlib.Omega.{arith}
+use lib.Dec.{ltb}
+use lib.ListN.{length, length-map, length-append}
+use Rattle.runs.specs.Lists.{In, keep}
+use Rattle.runs.specs.Machine.{Machine, Laws}
+use Rattle.runs.specs.Run.{Quiet, Follow}
+use Rattle.runs.specs.Waiting.{Hopeful}
+use Rattle.runs.specs.Search.{Thread, Answer, moves, stays, unended, offers, next, ended, endings, least, hopeful, waiting, waitingCount, overfull, outcome, scan, origin, search}
+use Rattle.runs.specs.Threads.{candidates, advance, within, onward, follow, threads}
+use Rattle.runs.proofs.Lists.{only-in, only-first, only-rest, Passed, keep-in, keep-out, Given, gather-in, gather-out, Image, map-in, map-out, distinct-in, distinct-out, distinct-once, same-length}
+use Rattle.runs.proofs.Comparison.{AtMost, at-most-append}
+use Rattle.runs.proofs.Trails.{follow-one, follow-valid, start-weight}
+use Rattle.runs.proofs.Moves.{stepped, Moved, moves-in, moves-out, stays-in, stays-out, begun-same, unended-in, unended-out, hopeful-in, hopeful-out, hopeless-in}
+use Rattle.runs.proofs.Least.{some≢none, Under, least-agrees}
+use Rattle.runs.proofs.Reach.{Live, Exact, exact-next, exact-origin, endings-in, move-length}
+use Rattle.runs.proofs.Insert.{configs, Covered, covered-trans, covered-self, insertAll-from, insertAll-covers, insertAll-once, fits}
+
+module _ (M : Machine) where
+  open Machine M using (Config, start, committed, final, fire, expired, steps, events)
+
+  -- from event n on no step fires, and all are expired
+  record Dead (n : ℕ) (c : Config) : Type 0 where
+    silent : (m k : ℕ) → n ≤ m → m < events → k < steps → fire c m k ≡ none
+    gone : (m k : ℕ) → n ≤ m → m < events → k < steps → expired c k m ≡ true
+
+  -- the threads of w are some of all, and cover all that can still move or wait from event n on
+  record Selects (n : ℕ) (w all : List (Thread M)) : Type 0 where
+    from : (th : Thread M) → In th w → In th all
+    covers : (th : Thread M) → In th all → Covered M w th ⊎ Dead n (th .config)
+
+  -- ---- what holds of a thread holds of another in its configuration
+
+  -- the thread w with the step that th takes
+  shifted : (n : ℕ) (th x w : Thread M) → w .config ≡ th .config → (v : Moved M n th x) → In (stepped M w n (v .number) (x .config)) (moves M n w)
+  shifted n th x w e v =
+      moves-out M n w (v .number) (x .config) (v .known) (ap (λ c. fire c n (v .number)) e ∙ v .fires)
+      (λ c j q. ap (λ z. fire z n j) e ∙ v .lowest (ap committed (sym e) ∙ c) j q)
+
+  shifted-under : (n : ℕ) (th x w : Thread M) (v : Moved M n th x) → length (w .trail) ≡ length (th .trail) → AtMost (w .trail) (th .trail) → AtMost (stepped M w n (v .number) (x .config) .trail) (x .trail)
+  shifted-under n th x w v h a =
+      subst (λ (y : Thread M). AtMost (w .trail ++ (record { event = n; step = v .number } ∷ [])) (y .trail)) (sym (v .is)) (at-most-append (w .trail) (th .trail) (record { event = n; step = v .number } ∷ []) h a)
+
+  stays-same : (n : ℕ) (th w : Thread M) → w .config ≡ th .config → length (w .trail) ≡ length (th .trail) → stays M n th ≡ true → stays M n w ≡ true
+  stays-same n th w e h s =
+      let k = stays-in M n th s in
+      stays-out M n w (begun-same (w .trail) (th .trail) h ∙ k .0) (λ c. subst (λ z. Quiet M z n) (sym e) (k .1 (ap committed (sym e) ∙ c)))
+
+  hopeful-same : (n : ℕ) (x y : Thread M) → y .config ≡ x .config → hopeful M n x ≡ true → hopeful M n y ≡ true
+  hopeful-same n x y e h = hopeful-out M n y (subst (λ c. Hopeful M c n) (sym e) (hopeful-in M n x h))
+
+  -- a dead thread moves nowhere, and does not wait
+  dead-moves : (n : ℕ) (th x : Thread M) → n < events → Dead n (th .config) → Moved M n th x → ⊥
+  dead-moves n th x l d v = some≢none (sym (v .fires) ∙ d .silent n (v .number) (le-refl n) l (v .known))
+
+  dead-hope : (n : ℕ) (th : Thread M) → n < events → Dead n (th .config) → hopeful M n th ≡ true → ⊥
+  dead-hope n th l d h =
+      let k = hopeful-in M n th h in
+      true≢false (sym (d .gone n (k .step) (le-refl n) l (k .known)) ∙ k .alive)
+
+module _ (M : Machine) (L : Laws M) where
+  open Machine M using (Config, same, start, committed, final, fire, expired, steps, events)
+
+  -- equal configurations have equally long trails
+  same-steps : (i n : ℕ) (a b : Thread M) → Live M i n a → Live M i n b → a .config ≡ b .config → length (a .trail) ≡ length (b .trail)
+  same-steps i n a b p q e = sym (start-weight M L (a .config) i (a .trail) (p .follows)) ∙ ap (L .weight) e ∙ start-weight M L (b .config) i (b .trail) (q .follows)
+
+  -- what has no unexpired step after n is dead from the next event on
+  hopeless-dead : (i n : ℕ) (x : Thread M) → L .first ≤ n → Live M i (suc n) x → hopeful M n x ≡ false → Dead M (suc n) (x .config)
+  hopeless-dead i n x h l e =
+      record {
+        silent = λ m k a b q. L .silent (x .config) k n m valid h a b (hopeless-in M n x e k q);
+        gone = λ m k a b q. L .stable (x .config) k n m valid h a b (hopeless-in M n x e k q);
+      }
+    where
+      valid : L .Valid (x .config)
+      valid = follow-valid M L start (x .config) i (x .trail) (L .valid-start) (l .follows)
+
+  -- ---- the same least ending
+
+  same-endings : (i n : ℕ) (w all : List (Thread M)) → n < events → Exact M i n all → Selects M n w all → least M (endings M n w) ≡ least M (endings M n all)
+  unfolding endings
+  same-endings i n w all l x s = least-agrees M (endings M n w) (endings M n all) sub cover one
+    where
+      sub : (y : Thread M) → In y (endings M n w) → In y (endings M n all)
+      sub y m = let g = gather-in (λ (th : Thread M). keep (ended M) (moves M n th)) w m in gather-out (λ (th : Thread M). keep (ended M) (moves M n th)) (s .from (g .giver) (g .member)) (g .gives)
+
+      under : (th y : Thread M) → In th all → Moved M n th y → final (y .config) ≡ true → Covered M w th ⊎ Dead M n (th .config) → Under M (endings M n w) y
+      under th y m v f (inl c) =
+          record {
+            thread = stepped M (c .thread) n (v .number) (y .config);
+            member = gather-out (λ (th : Thread M). keep (ended M) (moves M n th)) (c .member) (keep-out (ended M) (shifted M n th y (c .thread) (c .config-is) v) f);
+            under = shifted-under M n th y (c .thread) v (same-steps i n (c .thread) th (x .sound (c .thread) (s .from (c .thread) (c .member))) (x .sound th m) (c .config-is)) (c .under);
+          }
+      under th y m v f (inr d) = absurd (dead-moves M n th y l d v)
+
+      cover : (y : Thread M) → In y (endings M n all) → Under M (endings M n w) y
+      cover y m = of (gather-in (λ (th : Thread M). keep (ended M) (moves M n th)) all m)
+        where
+          of : Given (λ (th : Thread M). keep (ended M) (moves M n th)) all y → Under M (endings M n w) y
+          of g =
+              let q = keep-in (ended M) (moves M n (g .giver)) (g .gives) in
+              under (g .giver) y (g .member) (moves-in M n (g .giver) y (q .member)) (q .passes) (s .covers (g .giver) (g .member))
+
+      one : (a b : Thread M) → In a (endings M n all) → In b (endings M n all) → a .trail ≡ b .trail → a ≡ b
+      one a b p q e = λ j. record { config = config j; trail = e j }
+        where
+          config : a .config ≡ b .config
+          config = follow-one M start start (a .config) (b .config) i (b .trail) refl (subst (λ t. Follow M start i t (a .config)) e (endings-in M i n all l x a p .run .path .follows)) (endings-in M i n all l x b q .run .path .follows)
+
+  -- ---- the same waiting configurations
+
+  candidate : (i n : ℕ) (w all : List (Thread M)) → n < events → Exact M i n all → Selects M n w all → (x : Thread M) → In x (next M n all) → hopeful M n x ≡ true → Covered M (advance M n w) x
+  unfolding next offers candidates advance
+  candidate i n w all l ex s x m h = of (gather-in (offers M n) all m)
+    where
+      enter : (t y : Thread M) → In t w → In y (offers M n t) → y .config ≡ x .config → AtMost (y .trail) (x .trail) → Covered M (advance M n w) x
+      enter t y k o e a = covered-trans M (advance M n w) y x e a (insertAll-covers M L [] (candidates M n w) y (keep-out (hopeful M n) (gather-out (offers M n) k o) (hopeful-same M n x y e h)))
+
+      long : (th : Thread M) → In th all → (c : Covered M w th) → length (c .thread .trail) ≡ length (th .trail)
+      long th k c = same-steps i n (c .thread) th (ex .sound (c .thread) (s .from (c .thread) (c .member))) (ex .sound th k) (c .config-is)
+
+      stay : (th : Thread M) → In th all → stays M n th ≡ true → x ≡ th → Covered M w th ⊎ Dead M n (th .config) → Covered M (advance M n w) x
+      stay th k e q (inl c) =
+          enter (c .thread) (c .thread) (c .member) (only-first (keep (unended M) (moves M n (c .thread))) (stays-same M n th (c .thread) (c .config-is) (long th k c) e))
+          (c .config-is ∙ ap (λ (y : Thread M). y .config) (sym q)) (subst (λ (y : Thread M). AtMost (c .thread .trail) (y .trail)) (sym q) (c .under))
+      stay th k e q (inr d) = absurd (dead-hope M n th l d (hopeful-same M n x th (ap (λ (y : Thread M). y .config) (sym q)) h))
+
+      move : (th : Thread M) → In th all → Moved M n th x → unended M x ≡ true → Covered M w th ⊎ Dead M n (th .config) → Covered M (advance M n w) x
+      move th k v u (inl c) = enter (c .thread) y (c .member) (only-rest (stays M n (c .thread)) (c .thread) (keep-out (unended M) (shifted M n th x (c .thread) (c .config-is) v) open-still)) refl (shifted-under M n th x (c .thread) v (long th k c) (c .under))
+        where
+          y : Thread M
+          y = stepped M (c .thread) n (v .number) (x .config)
+
+          open-still : unended M y ≡ true
+          open-still = unended-out M y (unended-in M x u .0) (omega (arith, unended-in M x u .1, move-length M n th x v, length-append (c .thread .trail) (record { event = n; step = v .number } ∷ []), long th k c))
+      move th k v u (inr d) = absurd (dead-moves M n th x l d v)
+
+      of : Given (offers M n) all x → Covered M (advance M n w) x
+      of g = cases (only-in (stays M n (g .giver)) (g .gives))
+        where
+          cases : ((stays M n (g .giver) ≡ true) × (x ≡ g .giver)) ⊎ In x (keep (unended M) (moves M n (g .giver))) → Covered M (advance M n w) x
+          cases (inl e) = stay (g .giver) (g .member) (e .0) (e .1) (s .covers (g .giver) (g .member))
+          cases (inr k) =
+              let q = keep-in (unended M) (moves M n (g .giver)) k in
+              move (g .giver) (g .member) (moves-in M n (g .giver) x (q .member)) (q .passes) (s .covers (g .giver) (g .member))
+
+  -- a thread of the next list is one of the live threads, and may wait
+  advanced : (n : ℕ) (w all : List (Thread M)) → Selects M n w all → (x : Thread M) → In x (advance M n w) → Passed (hopeful M n) (next M n all) x
+  unfolding next candidates advance
+  advanced n w all s x m = go (insertAll-from M [] (candidates M n w) x m)
+    where
+      up : Given (offers M n) w x → In x (next M n all)
+      up g = gather-out (offers M n) (s .from (g .giver) (g .member)) (g .gives)
+
+      go : In x [] ⊎ In x (candidates M n w) → Passed (hopeful M n) (next M n all) x
+      go (inl h) = absurd (List·Memᴰ·not-nil h)
+      go (inr h) =
+          let q = keep-in (hopeful M n) (next M n w) h in
+          record { member = up (gather-in (offers M n) w (q .member)); passes = q .passes }
+
+  same-count : (i n : ℕ) (w all : List (Thread M)) → n < events → Exact M i n all → Selects M n w all → length (advance M n w) ≡ waitingCount M n (next M n all)
+  unfolding waiting waitingCount advance
+  same-count i n w all l ex s =
+      sym (length-map (advance M n w) config) ∙ same-length (configs M (advance M n w)) (waiting M n (next M n all)) (insertAll-once M L [] (candidates M n w) tt) (distinct-once same (L .same-equal) (L .equal-same) hoped) to back
+    where
+      config : Thread M → Config
+      config th = th .config
+
+      hoped : List Config
+      hoped = map (λ (th : Thread M). th .config) (keep (hopeful M n) (next M n all))
+
+      to : (c : Config) → In c (configs M (advance M n w)) → In c (waiting M n (next M n all))
+      to c m = of (map-in (λ (th : Thread M). th .config) (advance M n w) m)
+        where
+          of : Image (λ (th : Thread M). th .config) (advance M n w) c → In c (waiting M n (next M n all))
+          of g =
+              let q = advanced n w all s (g .source) (g .member) in
+              subst (λ z. In z (waiting M n (next M n all))) (sym (g .is)) (distinct-out same (L .same-equal) (L .equal-same) (map-out (λ (th : Thread M). th .config) (keep-out (hopeful M n) (q .member) (q .passes))))
+
+      back : (c : Config) → In c (waiting M n (next M n all)) → In c (configs M (advance M n w))
+      back c m = of (map-in (λ (th : Thread M). th .config) (keep (hopeful M n) (next M n all)) (distinct-in same (L .same-equal) (L .equal-same) hoped m))
+        where
+          of : Image (λ (th : Thread M). th .config) (keep (hopeful M n) (next M n all)) c → In c (configs M (advance M n w))
+          of g =
+              let q = keep-in (hopeful M n) (next M n all) (g .member) in
+              let k = candidate i n w all l ex s (g .source) (q .member) (q .passes) in
+              subst (λ z. In z (configs M (advance M n w))) (k .config-is ∙ sym (g .is)) (map-out (λ (th : Thread M). th .config) (k .member))
+
+  selects-next : (i n : ℕ) (w all : List (Thread M)) → L .first ≤ i → i ≤ n → n < events → Exact M i n all → Selects M n w all → Selects M (suc n) (advance M n w) (next M n all)
+  selects-next i n w all z h l ex s = record { from = λ th m. advanced n w all s th m .member; covers = λ th m. go th m (hopeful M n th) refl }
+    where
+      go : (th : Thread M) → In th (next M n all) → (b : Bool) → hopeful M n th ≡ b → Covered M (advance M n w) th ⊎ Dead M (suc n) (th .config)
+      go th m true e = inl (candidate i n w all l ex s th m e)
+      go th m false e = inr (hopeless-dead i n th (omega (arith, z, h)) (exact-next M i n all h l ex .sound th m) e)
+
+  -- ---- the same answer
+
+  same-scan : (slots i f n p : ℕ) (w all : List (Thread M)) → L .first ≤ i → i ≤ n → n + f ≡ events → Exact M i n all → Selects M n w all → scan M (advance M) (λ m ths. length ths) slots f n w p ≡ scan M (next M) (waitingCount M) slots f n all p
+  unfolding scan
+  same-scan slots i zero n p w all z h e x s = refl
+  same-scan slots i (suc f) n p w all z h e x s =
+      ap₂ (λ (o : Option (Thread M)) (a : Answer M). outcome M o p a) (same-endings i n w all l x s)
+      (ap₂ (λ (k : ℕ) (a : Answer M). overfull M (ltb slots k) n a) count
+      (ap (λ (k : ℕ). scan M (advance M) (λ m ths. length ths) slots f (suc n) (advance M n w) (max p k)) count ∙
+      same-scan slots i f (suc n) (max p (waitingCount M n (next M n all))) (advance M n w) (next M n all) z (omega (arith, h)) (omega (arith, e)) (exact-next M i n all h l x) (selects-next i n w all z h l x s)))
+    where
+      l : n < events
+      l = omega (arith, e)
+
+      count : length (advance M n w) ≡ waitingCount M n (next M n all)
+      count = same-count i n w all l x s
+
+  follow-scan : (slots f n p : ℕ) (w : List (Thread M)) → follow M slots f n w p ≡ scan M (advance M) (λ m ths. length ths) slots f n w p
+  unfolding follow scan advance
+  follow-scan slots zero n p w = refl
+  follow-scan slots (suc f) n p w =
+      ap (outcome M (least M (endings M n w)) p)
+      (ap (λ o. onward M o n (λ more. follow M slots f (suc n) more (max p (length more)))) (fits M slots [] (candidates M n w) zero-le) ∙ go (ltb slots (length (advance M n w))) (follow-scan slots f (suc n) (max p (length (advance M n w))) (advance M n w)))
+    where
+      rest : Answer M
+      rest = scan M (advance M) (λ m ths. length ths) slots f (suc n) (advance M n w) (max p (length (advance M n w)))
+
+      go : (b : Bool) → follow M slots f (suc n) (advance M n w) (max p (length (advance M n w))) ≡ rest → onward M (within M b (some (advance M n w))) n (λ more. follow M slots f (suc n) more (max p (length more))) ≡ overfull M b n rest
+      go true ih = refl
+      go false ih = ih
+
+  -- the list of threads gives what the definition gives
+  pub threads-search : (slots i : ℕ) → L .first ≤ i → i ≤ events → threads M slots i ≡ search M slots i
+  unfolding threads search
+  threads-search slots i z h =
+      follow-scan slots (events - i) i 0 (origin M) ∙
+      same-scan slots i (events - i) i 0 (origin M) (origin M) z (le-refl i) (omega (arith, h)) (exact-origin M L i) (record { from = λ th m. m; covers = λ th m. inl (covered-self M (origin M) th m) })

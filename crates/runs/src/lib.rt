@@ -1,0 +1,1 @@
+// The theory of runs over an abstract machine: definitions in specs/, proofs in proofs/; no code.
