@@ -1,0 +1,100 @@
+//! Writes the bytes of logs and formulas, command by command.
+
+pub const ADD: u8 = 0x23;
+pub const SUB: u8 = 0x24;
+pub const LESS: u8 = 0x25;
+pub const AT_MOST: u8 = 0x26;
+pub const EQUAL: u8 = 0x27;
+pub const NOT: u8 = 0x28;
+pub const AND: u8 = 0x29;
+pub const OR: u8 = 0x2A;
+pub const IF: u8 = 0x2B;
+
+/// Bytes from hexadecimal digits; everything else is skipped.
+pub fn hex(text: &str) -> Vec<u8> {
+    let digits: Vec<u32> = text.chars().filter_map(|c| c.to_digit(16)).collect();
+    digits
+        .chunks(2)
+        .map(|two| (two[0] * 16 + two[1]) as u8)
+        .collect()
+}
+
+/// The parts one behind the other.
+pub fn join(parts: &[Vec<u8>]) -> Vec<u8> {
+    parts.concat()
+}
+
+/// The parts one behind the other, and END.
+pub fn file(parts: &[Vec<u8>]) -> Vec<u8> {
+    let mut bytes = parts.concat();
+    bytes.push(0x00);
+    bytes
+}
+
+pub fn field(kind: u8) -> Vec<u8> {
+    vec![0x01, kind]
+}
+
+pub fn event(values: &[u32]) -> Vec<u8> {
+    let mut bytes = vec![0x02];
+    values
+        .iter()
+        .for_each(|value| bytes.extend(value.to_be_bytes()));
+    bytes
+}
+
+/// A log of the given field kinds and events.
+pub fn log(kinds: &[u8], events: &[&[u32]]) -> Vec<u8> {
+    let mut parts: Vec<Vec<u8>> = kinds.iter().map(|&kind| field(kind)).collect();
+    parts.extend(events.iter().map(|values| event(values)));
+    file(&parts)
+}
+
+pub fn tied(variable: u8) -> Vec<u8> {
+    vec![0x16, variable]
+}
+
+pub fn state(kind: u8) -> Vec<u8> {
+    vec![0x10, kind]
+}
+
+pub fn step(target: u8) -> Vec<u8> {
+    vec![0x11, target]
+}
+
+pub fn test(field: u8, operator: u8, value: u32) -> Vec<u8> {
+    let mut bytes = vec![0x12, field, operator];
+    bytes.extend(value.to_be_bytes());
+    bytes
+}
+
+pub fn testv(field: u8, operator: u8, variable: u8) -> Vec<u8> {
+    vec![0x13, field, operator, variable]
+}
+
+pub fn bind(field: u8, variable: u8) -> Vec<u8> {
+    vec![0x14, field, variable]
+}
+
+pub fn guard(expression: Vec<u8>) -> Vec<u8> {
+    join(&[vec![0x15], expression])
+}
+
+pub fn constant(value: u32) -> Vec<u8> {
+    let mut bytes = vec![0x20];
+    bytes.extend(value.to_be_bytes());
+    bytes
+}
+
+pub fn var(variable: u8) -> Vec<u8> {
+    vec![0x21, variable]
+}
+
+pub fn count(state: u8) -> Vec<u8> {
+    vec![0x22, state]
+}
+
+/// An expression command with its operands.
+pub fn op(code: u8, operands: &[Vec<u8>]) -> Vec<u8> {
+    join(&[vec![code], operands.concat()])
+}
