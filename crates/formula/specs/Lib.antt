@@ -1,2 +1,7 @@
--- Definitions of the formula: syntax, encoding, correct formulas, reading.
+-- Definitions of the formula: syntax, encoding, correct formulas, reading, where a step stands.
 pub mod Formula
+pub mod Encode
+pub mod Unbound
+pub mod Correct
+pub mod Read
+pub mod Lookup

@@ -1,1 +1,1 @@
-// x
+// The formula file.

@@ -1,0 +1,144 @@
+-- Worked examples of reading a formula against the bench log's fields: the paper's M9 and M10, and the border of each rule.
+use Prim.Native.Nat.{ℕ}
+use mathlib.Core.Path.{_≡_, refl}
+use mathlib.Core.List.{List, [], _∷_, flatMap}
+use Rattle.base.specs.Value.{bytesOf, valueAt}
+use Rattle.event_log.specs.Log.{Kind, plain, rising}
+use Rattle.refusal.specs.declared.Report.{Report}
+use Rattle.refusal.specs.Refusals.{reportOf, line}
+use Rattle.formula.specs.Encode.{encode, encodeExpr, encodeClause, encodeCommand, commands, stateCommands, stepCommands, guardCommands}
+use Rattle.formula.specs.Unbound.{binds, stepsOf, edgesFrom, mark, round, rounds, unbound, isUnbound}
+use Rattle.formula.specs.Read.{Reading, accepted, refused, start, opcode, operatorOf, kindOf, exprOpcode, over, exprWith, readExpr, next, gatherAll, assemble, firstLeaf, firstAbsent, firstUnbound, judge, afterEnd, readFrom, readFormula}
+
+-- what a reading answers: file, number and place, or 0 0 0 for accepted
+abbrev pub answer : Reading → Report
+answer (accepted f) = line 0 0 0
+answer (refused r) = reportOf r
+
+-- the bench log's fields: time rising, code plain
+unfoldable pub bench : List Kind
+bench = rising ∷ plain ∷ []
+
+pub read : List ℕ → Report
+unfolding readFormula readFrom afterEnd judge firstUnbound firstAbsent firstLeaf assemble gatherAll next readExpr exprWith over exprOpcode kindOf operatorOf opcode start isUnbound unbound rounds round mark edgesFrom stepsOf binds commands stateCommands stepCommands guardCommands encodeCommand encodeClause encodeExpr encode bytesOf valueAt flatMap bench
+read l = answer (readFormula bench l)
+
+-- M9 "G without its BIND: (2,8,15)"
+pub M9 : read (0x10 ∷ 0 ∷ 0x11 ∷ 1 ∷ 0x12 ∷ 1 ∷ 0 ∷ 0 ∷ 0 ∷ 0 ∷ 2 ∷ 0x10 ∷ 0 ∷ 0x11 ∷ 2 ∷ 0x13 ∷ 0 ∷ 0 ∷ 0 ∷ 0x12 ∷ 1 ∷ 0 ∷ 0 ∷ 0 ∷ 0 ∷ 1 ∷ 0x10 ∷ 2 ∷ 0 ∷ []) ≡ line 2 8 15
+unfolding read
+M9 = refl
+
+-- M10 "F with first target 5: (2,3,2)"
+pub M10 : read (0x10 ∷ 0 ∷ 0x11 ∷ 5 ∷ 0x12 ∷ 1 ∷ 0 ∷ 0 ∷ 0 ∷ 0 ∷ 1 ∷ 0x14 ∷ 0 ∷ 0 ∷ 0x10 ∷ 0 ∷ 0x11 ∷ 2 ∷ 0x12 ∷ 1 ∷ 0 ∷ 0 ∷ 0 ∷ 0 ∷ 2 ∷ 0x10 ∷ 2 ∷ 0 ∷ []) ≡ line 2 3 2
+unfolding read
+M10 = refl
+
+-- depth 8 is accepted
+deep-8 : read (0x10 ∷ 0 ∷ 0x11 ∷ 1 ∷ 0x15 ∷ 0x28 ∷ 0x28 ∷ 0x28 ∷ 0x28 ∷ 0x28 ∷ 0x28 ∷ 0x28 ∷ 0x20 ∷ 0 ∷ 0 ∷ 0 ∷ 1 ∷ 0x10 ∷ 2 ∷ 0 ∷ []) ≡ line 0 0 0
+unfolding read
+deep-8 = refl
+
+-- depth 9 is surplus at the command that stands there
+deep-9 : read (0x10 ∷ 0 ∷ 0x11 ∷ 1 ∷ 0x15 ∷ 0x28 ∷ 0x28 ∷ 0x28 ∷ 0x28 ∷ 0x28 ∷ 0x28 ∷ 0x28 ∷ 0x28 ∷ 0x20 ∷ 0 ∷ 0 ∷ 0 ∷ 1 ∷ 0x10 ∷ 2 ∷ 0 ∷ []) ≡ line 2 4 13
+unfolding read
+deep-9 = refl
+
+-- END at depth 9 is foreign
+deep-end : read (0x10 ∷ 0 ∷ 0x11 ∷ 1 ∷ 0x15 ∷ 0x28 ∷ 0x28 ∷ 0x28 ∷ 0x28 ∷ 0x28 ∷ 0x28 ∷ 0x28 ∷ 0x28 ∷ 0 ∷ []) ≡ line 2 2 13
+unfolding read
+deep-end = refl
+
+-- the file's end at depth 9 is cut short, at the file length
+deep-cut : read (0x10 ∷ 0 ∷ 0x11 ∷ 1 ∷ 0x15 ∷ 0x28 ∷ 0x28 ∷ 0x28 ∷ 0x28 ∷ 0x28 ∷ 0x28 ∷ 0x28 ∷ 0x28 ∷ []) ≡ line 2 1 13
+unfolding read
+deep-cut = refl
+
+-- 31 commands are accepted
+many-31 : read (0x10 ∷ 0 ∷ 0x11 ∷ 1 ∷ 0x15 ∷ 0x23 ∷ 0x23 ∷ 0x23 ∷ 0x23 ∷ 0x22 ∷ 0 ∷ 0x22 ∷ 0 ∷ 0x23 ∷ 0x22 ∷ 0 ∷ 0x22 ∷ 0 ∷ 0x23 ∷ 0x23 ∷ 0x22 ∷ 0 ∷ 0x22 ∷ 0 ∷ 0x23 ∷ 0x22 ∷ 0 ∷ 0x22 ∷ 0 ∷ 0x23 ∷ 0x23 ∷ 0x23 ∷ 0x22 ∷ 0 ∷ 0x22 ∷ 0 ∷ 0x23 ∷ 0x22 ∷ 0 ∷ 0x22 ∷ 0 ∷ 0x23 ∷ 0x23 ∷ 0x22 ∷ 0 ∷ 0x22 ∷ 0 ∷ 0x23 ∷ 0x22 ∷ 0 ∷ 0x22 ∷ 0 ∷ 0x10 ∷ 2 ∷ 0 ∷ []) ≡ line 0 0 0
+unfolding read
+many-31 = refl
+
+-- the 32nd command is surplus
+many-32 : read (0x10 ∷ 0 ∷ 0x11 ∷ 1 ∷ 0x15 ∷ 0x28 ∷ 0x23 ∷ 0x23 ∷ 0x23 ∷ 0x23 ∷ 0x22 ∷ 0 ∷ 0x22 ∷ 0 ∷ 0x23 ∷ 0x22 ∷ 0 ∷ 0x22 ∷ 0 ∷ 0x23 ∷ 0x23 ∷ 0x22 ∷ 0 ∷ 0x22 ∷ 0 ∷ 0x23 ∷ 0x22 ∷ 0 ∷ 0x22 ∷ 0 ∷ 0x23 ∷ 0x23 ∷ 0x23 ∷ 0x22 ∷ 0 ∷ 0x22 ∷ 0 ∷ 0x23 ∷ 0x22 ∷ 0 ∷ 0x22 ∷ 0 ∷ 0x23 ∷ 0x23 ∷ 0x22 ∷ 0 ∷ 0x22 ∷ 0 ∷ 0x23 ∷ 0x22 ∷ 0 ∷ 0x22 ∷ 0 ∷ 0x10 ∷ 2 ∷ 0 ∷ []) ≡ line 2 4 51
+unfolding read
+many-32 = refl
+
+-- END inside an expression is foreign
+end-inside : read (0x10 ∷ 0 ∷ 0x11 ∷ 1 ∷ 0x15 ∷ 0x28 ∷ 0 ∷ []) ≡ line 2 2 6
+unfolding read
+end-inside = refl
+
+-- a CONST cut in its value
+const-cut : read (0x10 ∷ 0 ∷ 0x11 ∷ 1 ∷ 0x15 ∷ 0x28 ∷ 0x20 ∷ 0 ∷ 0 ∷ []) ≡ line 2 1 6
+unfolding read
+const-cut = refl
+
+-- the ninth TIED is surplus whatever its variable
+tied-9 : read (0x16 ∷ 1 ∷ 0x16 ∷ 1 ∷ 0x16 ∷ 1 ∷ 0x16 ∷ 1 ∷ 0x16 ∷ 1 ∷ 0x16 ∷ 1 ∷ 0x16 ∷ 1 ∷ 0x16 ∷ 1 ∷ 0x16 ∷ 9 ∷ 0x10 ∷ 0 ∷ 0 ∷ []) ≡ line 2 4 16
+unfolding read
+tied-9 = refl
+
+-- no path leads to an unreachable state: nothing is unbound there
+unreachable : read (0x10 ∷ 0 ∷ 0x11 ∷ 2 ∷ 0x10 ∷ 0 ∷ 0x11 ∷ 2 ∷ 0x13 ∷ 0 ∷ 0 ∷ 0 ∷ 0x10 ∷ 2 ∷ 0 ∷ []) ≡ line 0 0 0
+unfolding read
+unreachable = refl
+
+-- every path through the loop binds the variable first
+loop-bound : read (0x10 ∷ 0 ∷ 0x11 ∷ 1 ∷ 0x14 ∷ 0 ∷ 0 ∷ 0x10 ∷ 0 ∷ 0x11 ∷ 1 ∷ 0x11 ∷ 2 ∷ 0x13 ∷ 0 ∷ 0 ∷ 0 ∷ 0x10 ∷ 2 ∷ 0 ∷ []) ≡ line 0 0 0
+unfolding read
+loop-bound = refl
+
+-- a step around the loop that does not bind: unbound behind it
+loop-unbound : read (0x10 ∷ 0 ∷ 0x11 ∷ 1 ∷ 0x14 ∷ 0 ∷ 0 ∷ 0x11 ∷ 1 ∷ 0x10 ∷ 0 ∷ 0x11 ∷ 1 ∷ 0x11 ∷ 2 ∷ 0x13 ∷ 0 ∷ 0 ∷ 0 ∷ 0x10 ∷ 2 ∷ 0 ∷ []) ≡ line 2 8 15
+unfolding read
+loop-unbound = refl
+
+-- at a VAR the step's own BIND counts
+own-bind : read (0x10 ∷ 0 ∷ 0x11 ∷ 1 ∷ 0x14 ∷ 0 ∷ 0 ∷ 0x15 ∷ 0x21 ∷ 0 ∷ 0x10 ∷ 2 ∷ 0 ∷ []) ≡ line 0 0 0
+unfolding read
+own-bind = refl
+
+-- at a TESTV it does not
+own-bind-testv : read (0x10 ∷ 0 ∷ 0x11 ∷ 1 ∷ 0x14 ∷ 0 ∷ 0 ∷ 0x13 ∷ 0 ∷ 0 ∷ 0 ∷ 0x10 ∷ 2 ∷ 0 ∷ []) ≡ line 2 8 7
+unfolding read
+own-bind-testv = refl
+
+-- a second GUARD is surplus
+guard-twice : read (0x10 ∷ 0 ∷ 0x11 ∷ 1 ∷ 0x15 ∷ 0x20 ∷ 0 ∷ 0 ∷ 0 ∷ 1 ∷ 0x15 ∷ 0x20 ∷ 0 ∷ 0 ∷ 0 ∷ 1 ∷ 0x10 ∷ 2 ∷ 0 ∷ []) ≡ line 2 4 10
+unfolding read
+guard-twice = refl
+
+-- a clause behind a GUARD is foreign, even as the ninth
+clause-behind : read (0x10 ∷ 0 ∷ 0x11 ∷ 1 ∷ 0x14 ∷ 0 ∷ 0 ∷ 0x14 ∷ 0 ∷ 0 ∷ 0x14 ∷ 0 ∷ 0 ∷ 0x14 ∷ 0 ∷ 0 ∷ 0x14 ∷ 0 ∷ 0 ∷ 0x14 ∷ 0 ∷ 0 ∷ 0x14 ∷ 0 ∷ 0 ∷ 0x14 ∷ 0 ∷ 0 ∷ 0x15 ∷ 0x20 ∷ 0 ∷ 0 ∷ 0 ∷ 1 ∷ 0x14 ∷ 0 ∷ 0 ∷ 0x10 ∷ 2 ∷ 0 ∷ []) ≡ line 2 2 34
+unfolding read
+clause-behind = refl
+
+-- leftover comes before an absent state
+leftover-first : read (0x10 ∷ 0 ∷ 0x11 ∷ 5 ∷ 0 ∷ 7 ∷ []) ≡ line 2 5 5
+unfolding read
+leftover-first = refl
+
+-- a COUNT that names an absent state, before a dead start
+absent-count : read (0x10 ∷ 0 ∷ 0x11 ∷ 0 ∷ 0x15 ∷ 0x22 ∷ 3 ∷ 0 ∷ []) ≡ line 2 3 5
+unfolding read
+absent-count = refl
+
+-- a dead start is at place 0, also behind TIEDs
+dead-start : read (0x16 ∷ 0 ∷ 0x10 ∷ 2 ∷ 0 ∷ []) ≡ line 2 7 0
+unfolding read
+dead-start = refl
+
+-- cut short comes before a value that does not exist
+cut-first : read (0x10 ∷ 0 ∷ 0x11 ∷ 1 ∷ 0x12 ∷ 9 ∷ []) ≡ line 2 1 4
+unfolding read
+cut-first = refl
+
+-- an empty file
+empty : read ([]) ≡ line 2 1 0
+unfolding read
+empty = refl
+
+-- END before the first STATE is foreign
+end-first : read (0 ∷ []) ≡ line 2 2 0
+unfolding read
+end-first = refl

@@ -1,0 +1,16 @@
+-- Laws of reading a formula, and worked examples.
+pub mod Basics
+pub mod Exprs
+pub mod Commands
+pub mod Gather
+pub mod Closure
+pub mod Counts
+pub mod AfterEnd
+pub mod Reading
+pub mod Fuel
+pub mod Walk
+pub mod Places
+pub mod Steps
+pub mod Table
+pub mod Ties
+pub mod Examples

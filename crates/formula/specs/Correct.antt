@@ -1,0 +1,140 @@
+-- Correct formulas, in the paper's words: its counts and depths, what exists, no dead start, nothing unbound.
+use Prim.Native.Nat.{ℕ, suc, _+_, _<_, _≤_, max}
+use mathlib.Core.Path.{_≡_}
+use mathlib.Core.Bool.{Bool, true, false}
+use mathlib.Core.List.{List, [], _∷_}
+use mathlib.Core.Option.{Option, none, some}
+use lib.ListN.{length}
+use Rattle.base.specs.Lists.{All}
+use Rattle.event_log.specs.Log.{Kind}
+use Rattle.formula.specs.Formula.{Expr, CONST, VAR, COUNT, ADD, SUB, LESS, ATMOST, EQUAL, NOT, AND, OR, IF}
+use Rattle.formula.specs.Formula.{Clause, TEST, TESTV, BIND, Step, StateKind, ordinary, committed, accept, reject, State, Formula}
+use Rattle.formula.specs.Encode.{Command, TIED, STATE, STEP, CLAUSE, GUARD, commands}
+use Rattle.formula.specs.Unbound.{binds, Unbound}
+
+-- "At most 31 commands": the commands of an expression
+unfoldable pub size : Expr → ℕ
+size (CONST v) = 1
+size (VAR v) = 1
+size (COUNT s) = 1
+size (ADD a b) = suc (size a + size b)
+size (SUB a b) = suc (size a + size b)
+size (LESS a b) = suc (size a + size b)
+size (ATMOST a b) = suc (size a + size b)
+size (EQUAL a b) = suc (size a + size b)
+size (NOT a) = suc (size a)
+size (AND a b) = suc (size a + size b)
+size (OR a b) = suc (size a + size b)
+size (IF c a b) = suc (size c + (size a + size b))
+
+-- "nested at most 8 deep, the outermost being depth 1"
+unfoldable pub depth : Expr → ℕ
+depth (CONST v) = 1
+depth (VAR v) = 1
+depth (COUNT s) = 1
+depth (ADD a b) = suc (max (depth a) (depth b))
+depth (SUB a b) = suc (max (depth a) (depth b))
+depth (LESS a b) = suc (max (depth a) (depth b))
+depth (ATMOST a b) = suc (max (depth a) (depth b))
+depth (EQUAL a b) = suc (max (depth a) (depth b))
+depth (NOT a) = suc (depth a)
+depth (AND a b) = suc (max (depth a) (depth b))
+depth (OR a b) = suc (max (depth a) (depth b))
+depth (IF c a b) = suc (max (depth c) (max (depth a) (depth b)))
+
+-- every CONST, VAR and COUNT of the expression has its property
+abbrev pub Leaves : (ℕ → Type 0) → (ℕ → Type 0) → (ℕ → Type 0) → Expr → Type 0
+Leaves P Q R (CONST v) = P v
+Leaves P Q R (VAR v) = Q v
+Leaves P Q R (COUNT s) = R s
+Leaves P Q R (ADD a b) = Leaves P Q R a × Leaves P Q R b
+Leaves P Q R (SUB a b) = Leaves P Q R a × Leaves P Q R b
+Leaves P Q R (LESS a b) = Leaves P Q R a × Leaves P Q R b
+Leaves P Q R (ATMOST a b) = Leaves P Q R a × Leaves P Q R b
+Leaves P Q R (EQUAL a b) = Leaves P Q R a × Leaves P Q R b
+Leaves P Q R (NOT a) = Leaves P Q R a
+Leaves P Q R (AND a b) = Leaves P Q R a × Leaves P Q R b
+Leaves P Q R (OR a b) = Leaves P Q R a × Leaves P Q R b
+Leaves P Q R (IF c a b) = Leaves P Q R c × Leaves P Q R a × Leaves P Q R b
+
+-- "accept or reject"
+abbrev pub final : StateKind → Bool
+final ordinary = false
+final committed = false
+final accept = true
+final reject = true
+
+-- "Variables are 0 to 7"
+abbrev pub Variable : ℕ → Type 0
+Variable v = v < 8
+
+-- "Values are .. 0 to 4294967295"
+abbrev pub Value : ℕ → Type 0
+Value v = v < 4294967296
+
+-- the command's field, variable, value and states exist, given the number of fields and states
+abbrev pub Exists : ℕ → ℕ → Command → Type 0
+Exists fields states (TIED v) = Variable v
+Exists fields states (STATE k) = Unit {0}
+Exists fields states (STEP t) = t < states
+Exists fields states (CLAUSE (TEST f o v)) = (f < fields) × Value v
+Exists fields states (CLAUSE (TESTV f o v)) = (f < fields) × Variable v
+Exists fields states (CLAUSE (BIND f v)) = (f < fields) × Variable v
+Exists fields states (GUARD e) = Leaves Value Variable (λ s. s < states) e
+
+-- "At most 31 commands, nested at most 8 deep"
+abbrev pub GuardFits : Option Expr → Type 0
+GuardFits none = Unit {0}
+GuardFits (some e) = (size e ≤ 31) × (depth e ≤ 8)
+
+-- "At most 8 of these a STEP"
+pub record StepFits (t : Step) : Type 0 where
+  pub clauses : length (t .clauses) ≤ 8
+  pub guard : GuardFits (t .guard)
+
+-- "STEP .. at most 8 a state; in accept or reject it is foreign"
+pub record StateFits (s : State) : Type 0 where
+  pub steps : length (s .steps) ≤ 8
+  pub last : final (s .kind) ≡ true → s .steps ≡ []
+  pub each : All StepFits (s .steps)
+
+-- "unbound at a TESTV": no clause of state s is a TESTV of an unbound variable
+abbrev pub ClauseBound : Formula → ℕ → Clause → Type 0
+ClauseBound f s (TEST g o x) = Unit {0}
+ClauseBound f s (TESTV g o v) = ¬ Unbound f v s
+ClauseBound f s (BIND g v) = Unit {0}
+
+-- "At a VAR the step's own BINDs count too"
+abbrev pub GuardBound : Formula → ℕ → List Clause → Option Expr → Type 0
+GuardBound f s own none = Unit {0}
+GuardBound f s own (some e) = Leaves (λ x. Unit {0}) (λ v. binds v own ≡ false → ¬ Unbound f v s) (λ x. Unit {0}) e
+
+-- no TESTV and no VAR of the step, which stands in state s, is unbound
+pub record StepBound (f : Formula) (s : ℕ) (t : Step) : Type 0 where
+  pub clauses : All (ClauseBound f s) (t .clauses)
+  pub guard : GuardBound f s (t .clauses) (t .guard)
+
+-- the same of every step of the states, numbered from s on
+abbrev pub AllBound : Formula → ℕ → List State → Type 0
+AllBound f s [] = Unit {0}
+AllBound f s (x ∷ xs) = All (StepBound f s) (x .steps) × AllBound f (suc s) xs
+
+-- "state 0 accepts or rejects"
+abbrev pub deadStart : List State → Bool
+deadStart [] = false
+deadStart (x ∷ xs) = final (x .kind)
+
+-- a correct formula for a log with these fields
+pub record Correct (fields : List Kind) (f : Formula) : Type 0 where
+  -- "TIED variable: up to 8 times"
+  pub tied : length (f .tied) ≤ 8
+  -- "1 to 16 states"
+  pub nonempty : 1 ≤ length (f .states)
+  pub states : length (f .states) ≤ 16
+  pub each : All StateFits (f .states)
+  -- no "kind, operator, field, variable or state does not exist"
+  pub values : All (Exists (length fields) (length (f .states))) (commands f)
+  -- not "state 0 accepts or rejects"
+  pub start : deadStart (f .states) ≡ false
+  -- nothing unbound
+  pub bound : AllBound f 0 (f .states)

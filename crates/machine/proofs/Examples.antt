@@ -1,0 +1,187 @@
+-- Worked examples of document 01, computed by the definitions.
+use Prim.Native.Nat.{ℕ, zero, suc, _≤_, _<_}
+use mathlib.Core.Path.{_≡_, refl}
+use mathlib.Core.Bool.{true, false}
+use mathlib.Core.List.{List, [], _∷_}
+use mathlib.Core.Option.{none, some}
+use native.Mathlib.Omega.{arith}
+use lib.ListN.{getD, replicate}
+use Rattle.event_log.specs.Log.{plain, rising as risingField, Log}
+use Rattle.formula.specs.Formula.{equal, less, atmost, Clause, TEST, TESTV, BIND, Step, ordinary, accept, Formula, Expr, CONST, VAR, COUNT, ADD, SUB, LESS, EQUAL, OR, IF}
+use Rattle.machine.specs.Configuration.{Config, start}
+use Rattle.machine.specs.Guard.{value}
+use Rattle.machine.specs.Firing.{hold, leave, fires, fire}
+use Rattle.machine.specs.Expiry.{rising, falling, expired}
+use Rattle.machine.specs.Machine.{stepOf, eventAt, fireAt, expiredAt, final, accepting}
+use Rattle.machine.proofs.Machine.{Premises}
+
+-- M11: "ADD of 4294967295 and 1 is 4294967295; SUB of 3 and 5 is 0"
+pub m11-add : (values counters : List ℕ) → value values counters (ADD (CONST 4294967295) (CONST 1)) ≡ 4294967295
+unfolding value
+m11-add values counters = refl
+
+pub m11-sub : (values counters : List ℕ) → value values counters (SUB (CONST 3) (CONST 5)) ≡ 0
+unfolding value
+m11-sub values counters = refl
+
+-- "LESS to OR give 0 or 1"
+pub or-gives-one : (values counters : List ℕ) → value values counters (OR (CONST 5) (CONST 7)) ≡ 1
+unfolding value
+or-gives-one values counters = refl
+
+-- a step to state t with these clauses and no guard
+abbrev bare : ℕ → List Clause → Step
+bare t ks = record { target = t; clauses = ks; guard = none }
+
+abbrev guarded : ℕ → List Clause → Expr → Step
+guarded t ks g = record { target = t; clauses = ks; guard = some g }
+
+-- "a step with time less than 600 is hopeless after 600, not after 599"
+pub late-600 : (c : Config) (t : ℕ) → expired (risingField ∷ []) c (bare t (TEST 0 less 600 ∷ [])) (600 ∷ []) ≡ true
+unfolding expired
+late-600 c t = refl
+
+pub not-late-599 : (c : Config) (t : ℕ) → expired (risingField ∷ []) c (bare t (TEST 0 less 600 ∷ [])) (599 ∷ []) ≡ false
+unfolding expired
+not-late-599 c t = refl
+
+-- on a plain field a false TEST with less is not hopeless
+pub plain-600 : (c : Config) (t : ℕ) → expired (plain ∷ []) c (bare t (TEST 0 less 600 ∷ [])) (600 ∷ []) ≡ false
+unfolding expired
+plain-600 c t = refl
+
+-- at most 600: not hopeless after 600, hopeless after 601
+pub atmost-600 : (c : Config) (t : ℕ) → expired (risingField ∷ []) c (bare t (TEST 0 atmost 600 ∷ [])) (600 ∷ []) ≡ false
+unfolding expired
+atmost-600 c t = refl
+
+pub atmost-601 : (c : Config) (t : ℕ) → expired (risingField ∷ []) c (bare t (TEST 0 atmost 600 ∷ [])) (601 ∷ []) ≡ true
+unfolding expired
+atmost-601 c t = refl
+
+-- an equal test that a rising field has passed is not hopeless
+pub equal-601 : (c : Config) (t : ℕ) → expired (risingField ∷ []) c (bare t (TEST 0 equal 600 ∷ [])) (601 ∷ []) ≡ false
+unfolding expired
+equal-601 c t = refl
+
+-- TESTV is against the value held before (here none: 0), also where the step binds the variable
+pub testv-before : fire start (bare 1 (BIND 0 0 ∷ TESTV 0 equal 0 ∷ [])) (7 ∷ []) ≡ none
+unfolding fire fires leave hold start
+testv-before = refl
+
+-- a variable that holds x, and nothing else, in state s with these counters
+abbrev holding : ℕ → ℕ → List ℕ → Config
+holding s x counters = record { state = s; held = true ∷ replicate 7 false; values = x ∷ replicate 7 0; counters = counters }
+
+-- two BINDs of one variable fire with one value, and only then; one is added to the state being left
+pub binds-equal : fire start (bare 1 (BIND 0 0 ∷ BIND 1 0 ∷ [])) (7 ∷ 7 ∷ []) ≡ some (holding 1 7 (1 ∷ replicate 15 0))
+unfolding fire fires leave hold start
+binds-equal = refl
+
+pub binds-differ : fire start (bare 1 (BIND 0 0 ∷ BIND 1 0 ∷ [])) (7 ∷ 8 ∷ []) ≡ none
+unfolding fire fires leave hold start
+binds-differ = refl
+
+-- a BIND of a held variable is compared with the value held
+pub held-differs : (s : ℕ) (counters : List ℕ) → fire (holding s 7 counters) (bare 1 (BIND 0 0 ∷ [])) (8 ∷ []) ≡ none
+unfolding fire fires leave hold
+held-differs s counters = refl
+
+-- the guard reads the values after binding, and the counters after adding one to the state being left
+pub guard-after-binding : fires start (guarded 1 (BIND 0 0 ∷ []) (EQUAL (VAR 0) (CONST 7))) (7 ∷ []) ≡ true
+unfolding fires leave hold start value
+guard-after-binding = refl
+
+pub left-counted : fires start (guarded 1 [] (EQUAL (COUNT 0) (CONST 1))) (7 ∷ []) ≡ true
+unfolding fires leave hold start value
+left-counted = refl
+
+pub entered-not-counted : fires start (guarded 1 [] (COUNT 1)) (7 ∷ []) ≡ false
+unfolding fires leave hold start value
+entered-not-counted = refl
+
+-- falling includes both: a guard of counters and constants that is 0 with the step's own counter makes the step hopeless at once
+pub own-counter : expired (risingField ∷ []) start (guarded 1 [] (LESS (COUNT 0) (CONST 1))) (7 ∷ []) ≡ true
+unfolding expired leave hold start value falling rising
+own-counter = refl
+
+-- time less than 10 by a guard, on a variable bound to the rising time: hopeless after 10, not after 9
+pub guard-late : expired (risingField ∷ []) start (guarded 1 (BIND 0 0 ∷ []) (LESS (VAR 0) (CONST 10))) (10 ∷ []) ≡ true
+unfolding expired leave hold start value falling rising
+guard-late = refl
+
+pub guard-not-late : expired (risingField ∷ []) start (guarded 1 (BIND 0 0 ∷ []) (LESS (VAR 0) (CONST 10))) (9 ∷ []) ≡ false
+unfolding expired leave hold start value falling rising
+guard-not-late = refl
+
+-- a variable not held rises by the step's first BIND of it only
+pub first-bind-plain : rising (risingField ∷ plain ∷ []) start (BIND 1 0 ∷ BIND 0 0 ∷ []) (VAR 0) ≡ false
+unfolding rising start
+first-bind-plain = refl
+
+-- IF with a condition that is not both is not falling: its step is not hopeless at 9 though its guard is 0, and fires at 10
+abbrev late-enough : Step
+late-enough = guarded 1 (BIND 0 0 ∷ []) (IF (LESS (VAR 0) (CONST 10)) (CONST 0) (CONST 1))
+
+pub if-not-expired : expired (risingField ∷ []) start late-enough (9 ∷ []) ≡ false
+unfolding expired leave hold start value falling rising
+if-not-expired = refl
+
+pub if-fires-later : fires start late-enough (10 ∷ []) ≡ true
+unfolding fires leave hold start value
+if-fires-later = refl
+
+-- the bench's log L and formula F: time and code, trip and open
+abbrev pub L : Log
+L = record { fields = risingField ∷ plain ∷ []; events = (500 ∷ 1 ∷ []) ∷ (500 ∷ 2 ∷ []) ∷ [] }
+
+abbrev pub F : Formula
+F = record {
+  tied = [];
+  states = record { kind = ordinary; steps = bare 1 (TEST 1 equal 1 ∷ BIND 0 0 ∷ []) ∷ [] }
+      ∷ record { kind = ordinary; steps = bare 2 (TEST 1 equal 2 ∷ []) ∷ [] }
+      ∷ record { kind = accept; steps = [] }
+      ∷ [];
+}
+
+pub bench-trip : fireAt L F start 0 0 ≡ some (holding 1 500 (1 ∷ replicate 15 0))
+unfolding fireAt stepOf eventAt fire fires leave hold start
+bench-trip = refl
+
+pub bench-open : fireAt L F (holding 1 500 (1 ∷ replicate 15 0)) 1 0 ≡ some (holding 2 500 (1 ∷ 1 ∷ replicate 14 0))
+unfolding fireAt stepOf eventAt fire fires leave hold
+bench-open = refl
+
+pub bench-accepts : accepting F (holding 2 500 (1 ∷ 1 ∷ replicate 14 0)) ≡ true
+unfolding accepting
+bench-accepts = refl
+
+-- a step that the state lacks never fires and is expired
+pub no-second-step : fireAt L F start 0 1 ≡ none
+unfolding fireAt stepOf start
+no-second-step = refl
+
+pub no-second-step-expired : expiredAt L F start 1 0 ≡ true
+unfolding expiredAt stepOf start
+no-second-step-expired = refl
+
+-- what the machine's laws need holds of L and F
+pub bench-premises : Premises L F
+unfolding final start
+bench-premises = record {
+  never-falls = rise;
+  values-fit = omega arith;
+  some-state = omega arith;
+  most-states = omega arith;
+  targets = omega arith;
+  open-start = refl;
+}
+  where
+    kinds-differ : plain ≡ risingField → ⊥
+    kinds-differ q = let z : _≡_ {A = ℕ} 0 1 = cc in omega arith
+
+    rise : (n k : ℕ) → suc n < 2 → getD (L .fields) k plain ≡ risingField → getD (getD (L .events) n []) k 0 ≤ getD (getD (L .events) (suc n) []) k 0
+    rise (suc n) k h r = absurd (omega arith)
+    rise zero zero h r = omega arith
+    rise zero (suc zero) h r = absurd (kinds-differ r)
+    rise zero (suc (suc k)) h r = absurd (kinds-differ r)

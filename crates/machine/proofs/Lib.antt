@@ -1,0 +1,10 @@
+-- Laws of one step: same configurations, binding, rising and falling, expiry, the machine, examples.
+pub mod Tests
+pub mod Configurations
+pub mod Binding
+pub mod Trend
+pub mod Expiry
+pub mod Machine
+pub mod Walk
+pub mod Examples
+pub mod Agreement

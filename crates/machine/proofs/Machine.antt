@@ -1,0 +1,232 @@
+-- The machine of a correct log and a correct formula keeps the laws that the theory of runs asks for.
+use Prim.Native.Nat.{ℕ, zero, suc, _+_, _-_, _≤_, _<_}
+use mathlib.Core.Path.{_≡_, refl, sym, _∙_}
+use mathlib.Core.Bool.{Bool, true, false, true≢false, false≢true}
+use mathlib.Core.List.{List, [], _∷_}
+use mathlib.Core.Option.{Option, none, some}
+use native.Mathlib.Omega.{arith}
+use native.Mathlib.Nat.{le-refl}
+use native.Mathlib.Decide.{decLt}
+use lib.ListN.{length, length-set, getD, set, getElem?, replicate, List·getD-eq-default}
+use lib.Seq.{getD-set-same, getD-set-other}
+use lib.Dec.{eqb}
+use borrow.Author.Tests.{eqb-true, eqb-false}
+use Rattle.base.specs.Lists.{All}
+use Rattle.event_log.specs.Log.{Kind, plain, rising, Log, Event}
+use Rattle.formula.specs.Formula.{Formula, State, Step, Clause, TEST, TESTV, BIND}
+use Rattle.runs.specs.Machine.{Laws}
+use Rattle.machine.specs.Configuration.{Config, start, total, Valid}
+use Rattle.machine.specs.Firing.{field, isHeld, hold, bindAll, leave, fires, fire}
+use Rattle.machine.specs.Expiry.{isRising}
+use Rattle.machine.specs.Machine.{stepOf, eventAt, latest, fireBy, fireAt, expiredBy, expiredAt, final, machine}
+use Rattle.machine.proofs.Configurations.{same-equal, equal-same, total-add-one, length-add-one}
+use Rattle.machine.proofs.Binding.{hold-held, hold-new}
+use Rattle.machine.proofs.Expiry.{Grows, stable-step, silent-step}
+
+-- an element that a list has keeps what all its elements have
+all-at : {A : Type 0} (P : A → Type 0) (l : List A) (i : ℕ) (a : A) → All P l → getElem? l i ≡ some a → P a
+all-at P [] i a h e = absurd (omega (arith, absent e))
+  where
+    absent : none ≡ some a → _≡_ {A = ℕ} 0 1
+    absent q = cc
+all-at P (x ∷ xs) zero a h e = let q : x ≡ a = cc in rw q at (h .0)
+all-at P (x ∷ xs) (suc i) a h e = all-at P xs i a (h .1) e
+
+all-getD : {A : Type 0} (P : A → Type 0) (l : List A) (i : ℕ) (d : A) → All P l → P d → P (getD l i d)
+all-getD P [] i d h k = k
+all-getD P (x ∷ xs) zero d h k = h .0
+all-getD P (x ∷ xs) (suc i) d h k = all-getD P xs i d (h .1) k
+
+all-set : {A : Type 0} (P : A → Type 0) (l : List A) (i : ℕ) (a : A) → All P l → P a → All P (set l i a)
+all-set P [] i a h k = tt
+all-set P (x ∷ xs) zero a h k = (k, h .1)
+all-set P (x ∷ xs) (suc i) a h k = (h .0, all-set P xs i a (h .1) k)
+
+replicate-at : {A : Type 0} (n i : ℕ) (a : A) → getD (replicate n a) i a ≡ a
+replicate-at zero i a = refl
+replicate-at (suc n) zero a = refl
+replicate-at (suc n) (suc i) a = replicate-at n i a
+
+pub valid-start : (states : ℕ) → 0 < states → Valid states start
+unfolding start
+valid-start states h = record {
+  declared = h;
+  held-8 = refl;
+  values-8 = refl;
+  counters-16 = refl;
+  unheld-0 = λ v e. replicate-at 8 v 0;
+  fits = omega arith;
+}
+
+-- binding keeps a configuration valid
+valid-hold : (states : ℕ) (c : Config) (v x : ℕ) → Valid states c → x < 4294967296 → Valid states (hold c v x)
+valid-hold states c v x h k = go (isHeld c v) refl
+  where
+    unheld : (u : ℕ) (b : Bool) → eqb u v ≡ b → getD (set (c .held) v true) u false ≡ false → Dec (u < 8) → getD (set (c .values) v x) u 0 ≡ 0
+    unheld u true q n (yes p) =
+        let e : u ≡ v = eqb-true u v q in
+        let t : getD (set (c .held) v true) u false ≡ true = rw e (getD-set-same (c .held) v true false (omega (arith, h .held-8))) in
+        absurd (true≢false (sym t ∙ n))
+    unheld u true q n (no p) = List·getD-eq-default (set (c .values) v x) 0 (omega (arith, put-8))
+      where
+        put-8 : length (set (c .values) v x) ≡ 8
+        put-8 = length-set (c .values) v x ∙ h .values-8
+    unheld u false q n d =
+        let ne : u ≡ v → ⊥ = eqb-false u v q in
+        getD-set-other (c .values) v u x 0 ne ∙ h .unheld-0 u (sym (getD-set-other (c .held) v u true false ne) ∙ n)
+
+    go : (b : Bool) → isHeld c v ≡ b → Valid states (hold c v x)
+    go true e = rw (hold-held c v x e) h
+    go false e = rw (hold-new c v x e) (record {
+      declared = h .declared;
+      held-8 = length-set (c .held) v true ∙ h .held-8;
+      values-8 = length-set (c .values) v x ∙ h .values-8;
+      counters-16 = h .counters-16;
+      unheld-0 = λ u n. unheld u (eqb u v) refl n (decLt u 8);
+      fits = all-set (λ y. y < 4294967296) (c .values) v x (h .fits) k;
+    })
+
+-- every value of the event fits a word
+abbrev Fits : Event → Type 0
+Fits e = All (λ v. v < 4294967296) e
+
+valid-bind : (states : ℕ) (c : Config) (e : Event) (ks : List Clause) → Valid states c → Fits e → Valid states (bindAll c e ks)
+valid-bind states c e [] h k = h
+valid-bind states c e (TEST f o x ∷ ks) h k = valid-bind states c e ks h k
+valid-bind states c e (TESTV f o v ∷ ks) h k = valid-bind states c e ks h k
+valid-bind states c e (BIND f v ∷ ks) h k = valid-bind states (hold c v (field e f)) e ks (valid-hold states c v (field e f) h (all-getD (λ y. y < 4294967296) e f 0 k (omega arith))) k
+
+-- what a step leaves is valid
+pub valid-leave : (states : ℕ) (c : Config) (s : Step) (e : Event) → Valid states c → Fits e → states ≤ 16 → s .target < states → Valid states (leave c s e)
+unfolding leave
+valid-leave states c s e h k n t =
+    let b = valid-bind states c e (s .clauses) h k in
+    record {
+      declared = t;
+      held-8 = b .held-8;
+      values-8 = b .values-8;
+      counters-16 = length-add-one (c .counters) (c .state) (omega (arith, h .declared, h .counters-16)) ∙ h .counters-16;
+      unheld-0 = b .unheld-0;
+      fits = b .fits;
+    }
+
+-- a step fired: what is left is what the step leaves
+pub record Fired (c : Config) (s : Step) (e : Event) (d : Config) : Type 0 where
+  pub tests : fires c s e ≡ true
+  pub leaves : d ≡ leave c s e
+
+pub fire-some : (c : Config) (s : Step) (e : Event) (d : Config) → fire c s e ≡ some d → Fired c s e d
+unfolding fire
+fire-some c s e d h = go (fires c s e) refl
+  where
+    go : (b : Bool) → fires c s e ≡ b → Fired c s e d
+    go true q = let h′ : some (leave c s e) ≡ some d = rw q at h in record { tests = q; leaves = (cc) }
+    go false q = let h′ : none ≡ some d = rw q at h in let z : _≡_ {A = ℕ} 0 1 = cc in absurd (omega arith)
+
+-- step k of the configuration's state fired on event n
+pub record FiredAt (log : Log) (formula : Formula) (c : Config) (n k : ℕ) (d : Config) : Type 0 where
+  pub step : Step
+  pub found : stepOf formula (c .state) k ≡ some step
+  pub fired : Fired c step (eventAt log n) d
+
+pub fire-at-some : (log : Log) (formula : Formula) (c d : Config) (n k : ℕ) → fireAt log formula c n k ≡ some d → FiredAt log formula c n k d
+unfolding fireAt
+fire-at-some log formula c d n k h = go (stepOf formula (c .state) k) refl
+  where
+    go : (o : Option Step) → stepOf formula (c .state) k ≡ o → FiredAt log formula c n k d
+    go none q = let h′ : none ≡ some d = rw q at h in let z : _≡_ {A = ℕ} 0 1 = cc in absurd (omega arith)
+    go (some s) q = record { step = s; found = q; fired = fire-some c s (eventAt log n) d (rw q at h) }
+
+-- every step adds one to the sum of the counters
+pub weight-fire : (log : Log) (formula : Formula) (c d : Config) (n k : ℕ) → fireAt log formula c n k ≡ some d → total (d .counters) ≡ suc (total (c .counters))
+unfolding leave
+weight-fire log formula c d n k h =
+    let f = fire-at-some log formula c d n k h in
+    rw (f .fired .leaves) (total-add-one (c .counters) (c .state))
+
+-- What the machine's laws need of a correct log and a correct formula.
+pub record Premises (log : Log) (formula : Formula) : Type 0 where
+  -- "A rising field is never smaller than in the event before"
+  pub never-falls : (n k : ℕ) → suc n < length (log .events) → getD (log .fields) k plain ≡ rising → getD (getD (log .events) n []) k 0 ≤ getD (getD (log .events) (suc n) []) k 0
+  -- "Values are 4 bytes"
+  pub values-fit : All (λ (e : Event). All (λ v. v < 4294967296) e) (log .events)
+  -- "1 to 16 states"
+  pub some-state : 1 ≤ length (formula .states)
+  pub most-states : length (formula .states) ≤ 16
+  -- no STEP names an absent state
+  pub targets : All (λ (s : State). All (λ (t : Step). t .target < length (formula .states)) (s .steps)) (formula .states)
+  -- no dead start
+  pub open-start : final formula start ≡ false
+
+module _ (log : Log) (formula : Formula) (P : Premises log formula) where
+  rising-kind : (k : Kind) → isRising k ≡ true → k ≡ rising
+  rising-kind plain h = absurd (false≢true h)
+  rising-kind rising h = refl
+
+  -- rising fields grow from event n to event n + d
+  grow-by : (d n : ℕ) → n + d < length (log .events) → Grows (log .fields) (eventAt log n) (eventAt log (n + d))
+  unfolding eventAt
+  grow-by zero n h f r = let e : n + 0 ≡ n = omega arith in rw e (le-refl _)
+  grow-by (suc d) n h f r =
+      let e : n + suc d ≡ suc (n + d) = omega arith in
+      let p = grow-by d n (omega arith) f r in
+      let q = P .never-falls (n + d) f (omega arith) (rising-kind (getD (log .fields) f plain) r) in
+      rw e (omega arith)
+
+  -- the event after which a step is judged, and any later event
+  pub grow-to : (n m : ℕ) → n ≤ m → m < length (log .events) → Grows (log .fields) (latest log n) (eventAt log m)
+  unfolding latest
+  grow-to n m h k = go (m - n) (omega arith)
+    where
+      go : (d : ℕ) → n + d ≡ m → Grows (log .fields) (eventAt log n) (eventAt log m)
+      go d e = rw e at (grow-by d n (omega arith))
+
+  target-declared : (s k : ℕ) (t : Step) → stepOf formula s k ≡ some t → t .target < length (formula .states)
+  unfolding stepOf
+  target-declared s k t h = go (getElem? (formula .states) s) refl
+    where
+      go : (o : Option State) → getElem? (formula .states) s ≡ o → t .target < length (formula .states)
+      go none q = let h′ : none ≡ some t = rw q at h in let z : _≡_ {A = ℕ} 0 1 = cc in absurd (omega arith)
+      go (some x) q = all-at (λ (u : Step). u .target < length (formula .states)) (x .steps) k t (all-at (λ (y : State). All (λ (u : Step). u .target < length (formula .states)) (y .steps)) (formula .states) s x (P .targets) q) (rw q at h)
+
+  pub valid-fire : (c d : Config) (n k : ℕ) → Valid (length (formula .states)) c → fireAt log formula c n k ≡ some d → Valid (length (formula .states)) d
+  unfolding eventAt
+  valid-fire c d n k v h =
+      let f = fire-at-some log formula c d n k h in
+      rw (f .fired .leaves) (valid-leave (length (formula .states)) c (f .step) (eventAt log n) v (all-getD Fits (log .events) n [] (P .values-fit) tt) (P .most-states) (target-declared (c .state) k (f .step) (f .found)))
+
+  -- a step expired after n is expired after every later event
+  pub stable : (c : Config) (k n m : ℕ) → Valid (length (formula .states)) c → n ≤ m → m < length (log .events) → expiredAt log formula c k n ≡ true → expiredAt log formula c k m ≡ true
+  unfolding expiredAt latest
+  stable c k n m v h j e = go (stepOf formula (c .state) k) e
+    where
+      go : (o : Option Step) → expiredBy log o c (latest log n) ≡ true → expiredBy log o c (latest log m) ≡ true
+      go none q = refl
+      go (some s) q = stable-step (log .fields) (latest log n) (latest log m) (grow-to n m h j) (length (formula .states)) c s v q
+
+  -- a step expired after n fires on no later event
+  pub silent : (c : Config) (k n m : ℕ) → Valid (length (formula .states)) c → n < m → m < length (log .events) → expiredAt log formula c k n ≡ true → fireAt log formula c m k ≡ none
+  unfolding expiredAt fireAt
+  silent c k n m v h j e = go (stepOf formula (c .state) k) e
+    where
+      go : (o : Option Step) → expiredBy log o c (latest log n) ≡ true → fireBy o c (eventAt log m) ≡ none
+      go none q = refl
+      go (some s) q = silent-step (log .fields) (latest log n) (eventAt log m) (grow-to n m (omega arith) j) (length (formula .states)) c s v q
+
+  -- The machine keeps every law that the search is exact by.
+  pub laws : Laws (machine log formula)
+  unfolding start
+  laws = record {
+    same-equal = same-equal;
+    equal-same = equal-same;
+    Valid = Valid (length (formula .states));
+    valid-start = valid-start (length (formula .states)) (P .some-state);
+    valid-fire = valid-fire;
+    start-open = P .open-start;
+    first = 0;
+    stable = λ c k n m v f h. stable c k n m v (omega arith);
+    silent = λ c k n m v f h. silent c k n m v h;
+    weight = λ c. total (c .counters);
+    weight-start = refl;
+    weight-fire = λ c d n k h. weight-fire log formula c d n k h;
+  }

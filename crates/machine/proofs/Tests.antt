@@ -1,0 +1,41 @@
+-- Laws of tests that compute: conjunctions, disjunctions, and numbers compared.
+use mathlib.Core.Path.{_≡_, refl}
+use mathlib.Core.Bool.{Bool, true, false, _&&_, _||_, false≢true, true≢false}
+
+-- both parts of a conjunction hold
+pub and-left : (a b : Bool) → a && b ≡ true → a ≡ true
+and-left true b h = refl
+and-left false b h = h
+
+pub and-right : (a b : Bool) → a && b ≡ true → b ≡ true
+and-right true b h = h
+and-right false b h = absurd (false≢true h)
+
+pub and-true : (a b : Bool) → a ≡ true → b ≡ true → a && b ≡ true
+and-true true b h k = k
+and-true false b h k = h
+
+-- a conjunction is kept where its second part is, given the first
+pub and-keep : (a b b′ : Bool) → (a ≡ true → b ≡ true → b′ ≡ true) → a && b ≡ true → a && b′ ≡ true
+and-keep true b b′ f h = f refl h
+and-keep false b b′ f h = h
+
+-- a disjunction is kept where both parts are
+pub or-keep : (a b a′ b′ : Bool) → (a ≡ true → a′ ≡ true) → (b ≡ true → b′ ≡ true) → a || b ≡ true → a′ || b′ ≡ true
+or-keep true b true b′ f g h = refl
+or-keep true b false b′ f g h = absurd (false≢true (f refl))
+or-keep false b true b′ f g h = refl
+or-keep false b false b′ f g h = g h
+
+pub or-false : (a b : Bool) → a ≡ false → b ≡ false → a || b ≡ false
+or-false true b h k = absurd (true≢false h)
+or-false false b h k = k
+
+pub and-false : (a b : Bool) → b ≡ false → a && b ≡ false
+and-false true b h = h
+and-false false b h = refl
+
+-- what is not true is false
+pub not-true-false : (a : Bool) → (a ≡ true → ⊥) → a ≡ false
+not-true-false true h = absurd (h refl)
+not-true-false false h = refl

@@ -1,0 +1,52 @@
+-- "A configuration is a state, the held variables with values, and a counter per state."
+use Prim.Native.Nat.{ℕ, zero, suc, _+_, _<_}
+use mathlib.Core.Path.{_≡_}
+use mathlib.Core.Bool.{Bool, true, false, _&&_, Bool·beq}
+use mathlib.Core.List.{List, [], _∷_}
+use lib.ListN.{length, getD, replicate}
+use lib.Dec.{eqb}
+use Rattle.base.specs.Lists.{All}
+
+-- held and values have a place for each of the 8 variables, counters one for each of the 16 states that there can be;
+-- a value is 0 where its variable is not held, so that equal configurations are equal word by word
+pub record Config : Type 0 where
+  pub state : ℕ
+  pub held : List Bool
+  pub values : List ℕ
+  pub counters : List ℕ
+
+-- "The start configuration holds nothing, with counters 0"; "State 0 starts"
+unfoldable pub start : Config
+start = record { state = 0; held = replicate 8 false; values = replicate 8 0; counters = replicate 16 0 }
+
+-- two lists have the same elements, by a test on elements
+abbrev pub sameList : {A : Type 0} → (A → A → Bool) → List A → List A → Bool
+sameList same [] [] = true
+sameList same [] (y ∷ ys) = false
+sameList same (x ∷ xs) [] = false
+sameList same (x ∷ xs) (y ∷ ys) = same x y && sameList same xs ys
+
+-- the distinct configurations are told apart by state, held variables, values and counters
+unfoldable pub same : Config → Config → Bool
+same c d = eqb (c .state) (d .state) && sameList Bool·beq (c .held) (d .held) && sameList eqb (c .values) (d .values) && sameList eqb (c .counters) (d .counters)
+
+-- the counters with one added to that of state s
+abbrev pub addOne : List ℕ → ℕ → List ℕ
+addOne [] zero = 1 ∷ []
+addOne [] (suc s) = 0 ∷ addOne [] s
+addOne (x ∷ xs) zero = suc x ∷ xs
+addOne (x ∷ xs) (suc s) = x ∷ addOne xs s
+
+-- the counters added up: the number of steps taken
+abbrev pub total : List ℕ → ℕ
+total [] = 0
+total (x ∷ xs) = x + total xs
+
+-- what holds of every configuration that a run reaches, in a formula with so many states
+pub record Valid (states : ℕ) (c : Config) : Type 0 where
+  pub declared : c .state < states
+  pub held-8 : length (c .held) ≡ 8
+  pub values-8 : length (c .values) ≡ 8
+  pub counters-16 : length (c .counters) ≡ 16
+  pub unheld-0 : (v : ℕ) → getD (c .held) v false ≡ false → getD (c .values) v 0 ≡ 0
+  pub fits : All (λ x. x < 4294967296) (c .values)
