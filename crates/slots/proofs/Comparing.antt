@@ -1,0 +1,127 @@
+-- Comparing two lists from the front: what is left to compare from place i on.
+use Prim.Native.Nat.{ℕ, zero, suc, _+_, _<_, _≤_, _/_, _%_, compare, Ordering, Ordering·lt, Ordering·eq, Ordering·gt, compare·zero-zero, compare·zero-suc, compare·suc-zero, compare·suc-suc}
+use mathlib.Core.Path.{_≡_, refl, _∙_}
+use mathlib.Core.Bool.{Bool, true, false, not, Bool·beq}
+use mathlib.Core.List.{List, map}
+use native.Mathlib.Numerals.{add-one}
+use native.Mathlib.Omega.{arith}
+use lib.ListN.{length, getD, take, drop, drop-of-length-le, List·getD-map}
+use lib.Dec.{eqb}
+use lib.Seq.{drop-cons}
+use Rattle.runs.specs.Order.{then, lex}
+use Rattle.slots.specs.declared.Thread.{Thread}
+use Rattle.slots.specs.Threads.{sameList, sameConfig, key}
+use Rattle.slots.specs.Words.{bit, threadOf}
+use borrow.Author.Tests.{eq-eqb, ne-eqb}
+
+module _ {A : Type 0} (same : A → A → Bool) where
+  -- equal at place i: the rest decides
+  pub same-more : (xs ys : List A) (i : ℕ) (d : A) (b : Bool) → i < length xs → i < length ys → b ≡ sameList same (drop i xs) (drop i ys) → same (getD xs i d) (getD ys i d) ≡ true → b ≡ sameList same (drop (i + 1) xs) (drop (i + 1) ys)
+  unfolding sameList
+  same-more xs ys i d b hx hy e s = e ∙ rw (drop-cons xs i d, drop-cons ys i d, s, add-one i)
+
+  -- unequal at place i
+  pub same-not : (xs ys : List A) (i : ℕ) (d : A) (b : Bool) → i < length xs → i < length ys → b ≡ sameList same (drop i xs) (drop i ys) → same (getD xs i d) (getD ys i d) ≡ false → b ≡ false
+  unfolding sameList
+  same-not xs ys i d b hx hy e s = e ∙ rw (drop-cons xs i d, drop-cons ys i d, s)
+
+  -- nothing is left
+  pub same-all : (xs ys : List A) (i : ℕ) (b : Bool) → length xs ≤ i → length ys ≤ i → b ≡ sameList same (drop i xs) (drop i ys) → b ≡ true
+  unfolding sameList
+  same-all xs ys i b hx hy e = e ∙ rw (drop-of-length-le xs hx, drop-of-length-le ys hy)
+
+-- a word against a flag, by the flag
+pub agrees-held : (w : ℕ) (h : Bool) → h ≡ true → not (eqb w 0) ≡ Bool·beq (bit w) h
+agrees-held w h e = rw e (go (not (eqb w 0)))
+  where
+    go : (b : Bool) → b ≡ Bool·beq b true
+    go true = refl
+    go false = refl
+
+pub agrees-free : (w : ℕ) (h : Bool) → h ≡ false → eqb w 0 ≡ Bool·beq (bit w) h
+agrees-free w h e = rw e (go (eqb w 0))
+  where
+    go : (b : Bool) → b ≡ Bool·beq (not b) false
+    go true = refl
+    go false = refl
+
+-- what a trail word is compared by
+pub key-number : (n : Bool) (w : ℕ) → n ≡ true → w % 8 ≡ key n w
+key-number n w e = rw e
+
+pub key-event : (n : Bool) (w : ℕ) → n ≡ false → w / 8 ≡ key n w
+key-event n w e = rw e
+
+-- of the word at an index
+pub key-at : (n : Bool) (l : List ℕ) (i : ℕ) → getD (map (key n) l) i 0 ≡ key n (getD l i 0)
+key-at true l i = List·getD-map (key true) l i 0
+key-at false l i = List·getD-map (key false) l i 0
+
+pub compare-lt : (x y : ℕ) → x < y → compare x y ≡ Ordering·lt
+compare-lt zero zero h = absurd (omega arith)
+compare-lt zero (suc y) h = compare·zero-suc y
+compare-lt (suc x) zero h = absurd (omega arith)
+compare-lt (suc x) (suc y) h = compare·suc-suc x y ∙ compare-lt x y (omega arith)
+
+pub compare-gt : (x y : ℕ) → y < x → compare x y ≡ Ordering·gt
+compare-gt zero zero h = absurd (omega arith)
+compare-gt zero (suc y) h = absurd (omega arith)
+compare-gt (suc x) zero h = compare·suc-zero x
+compare-gt (suc x) (suc y) h = compare·suc-suc x y ∙ compare-gt x y (omega arith)
+
+compare-self : (x : ℕ) → compare x x ≡ Ordering·eq
+compare-self zero = compare·zero-zero
+compare-self (suc x) = compare·suc-suc x x ∙ compare-self x
+
+pub compare-eq : (x y : ℕ) → x ≤ y → y ≤ x → compare x y ≡ Ordering·eq
+compare-eq x y h k =
+    let e : x ≡ y = omega arith in
+    rw e (compare-self y)
+
+module _ (xs ys : List ℕ) (i : ℕ) (o : Ordering) (e : o ≡ lex (drop i xs) (drop i ys)) where
+  -- at place i the comparison is one of numbers, and then that of the rest
+  lex-at : i < length xs → i < length ys → o ≡ then (compare (getD xs i 0) (getD ys i 0)) (lex (drop (i + 1) xs) (drop (i + 1) ys))
+  unfolding lex
+  lex-at hx hy = e ∙ rw (drop-cons xs i 0, drop-cons ys i 0, add-one i)
+
+  pub lex-lt : i < length xs → i < length ys → getD xs i 0 < getD ys i 0 → o ≡ Ordering·lt
+  lex-lt hx hy h = lex-at hx hy ∙ rw (compare-lt (getD xs i 0) (getD ys i 0) h)
+
+  pub lex-gt : i < length xs → i < length ys → getD ys i 0 < getD xs i 0 → o ≡ Ordering·gt
+  lex-gt hx hy h = lex-at hx hy ∙ rw (compare-gt (getD xs i 0) (getD ys i 0) h)
+
+  pub lex-more : i < length xs → i < length ys → getD xs i 0 ≤ getD ys i 0 → getD ys i 0 ≤ getD xs i 0 → o ≡ lex (drop (i + 1) xs) (drop (i + 1) ys)
+  lex-more hx hy h k = lex-at hx hy ∙ rw (compare-eq (getD xs i 0) (getD ys i 0) h k)
+
+  -- one list is at its end
+  pub lex-short : length xs ≤ i → i < length ys → o ≡ Ordering·lt
+  unfolding lex
+  lex-short hx hy = e ∙ rw (drop-of-length-le xs hx, drop-cons ys i 0)
+
+  pub lex-long : i < length xs → length ys ≤ i → o ≡ Ordering·gt
+  unfolding lex
+  lex-long hx hy = e ∙ rw (drop-cons xs i 0, drop-of-length-le ys hy)
+
+  pub lex-both : length xs ≤ i → length ys ≤ i → o ≡ Ordering·eq
+  unfolding lex
+  lex-both hx hy = e ∙ rw (drop-of-length-le xs hx, drop-of-length-le ys hy)
+
+-- the configuration of words against a thread's, by the first field that differs
+module _ (ws : List ℕ) (b : Thread) where
+  pub differs-state : (getD ws 0 0 ≡ b .state → ⊥) → false ≡ sameConfig (threadOf ws) b
+  unfolding sameConfig threadOf
+  differs-state h = rw (ne-eqb (getD ws 0 0) (b .state) h)
+
+  module _ (state : getD ws 0 0 ≡ b .state) where
+    pub differs-held : sameList Bool·beq (map bit (take 8 (drop 1 ws))) (b .held) ≡ false → false ≡ sameConfig (threadOf ws) b
+    unfolding sameConfig threadOf
+    differs-held h = rw (eq-eqb (getD ws 0 0) (b .state) state, h)
+
+    module _ (held : sameList Bool·beq (map bit (take 8 (drop 1 ws))) (b .held) ≡ true) where
+      pub differs-values : sameList eqb (take 8 (drop 9 ws)) (b .values) ≡ false → false ≡ sameConfig (threadOf ws) b
+      unfolding sameConfig threadOf
+      differs-values h = rw (eq-eqb (getD ws 0 0) (b .state) state, held, h)
+
+      pub by-counters : sameList eqb (take 8 (drop 9 ws)) (b .values) ≡ true → (r : Bool) → r ≡ sameList eqb (take 16 (drop 17 ws)) (b .counters) → r ≡ sameConfig (threadOf ws) b
+      unfolding sameConfig threadOf
+      by-counters h r e = rw (eq-eqb (getD ws 0 0) (b .state) state, held, h, e)

@@ -1,0 +1,109 @@
+-- `slots::insert` meets its contract, by where b's configuration was found.
+use Rattle.slots.proofs.Insertion.{leaves, inserted-lesser, inserted-kept, inserted-more, inserted-none}
+use Rattle.slots.specs.Words.{threadAt, place}
+use Rattle.slots.specs.Threads.{Sized, trailOf, comesAfter}
+use Rattle.runs.specs.Order.{order}
+use denote.Ref.{now}
+use mathlib.Core.Path.{_≡_, ap, sym, _∙_}
+use Prim.Native.Nat.{_+_}
+use borrow.Author.Needs.{needs}
+use Rattle.slots.proofs.insert.Statement.{statement}
+use Rattle.slots.proofs.insert.Tie as tie
+
+sized : (c : tie.Start) → Sized (c .args .b)
+sized c = record { held-8 = search needs; values-8 = search needs; counters-16 = search needs; trail-32 = search needs }
+
+find-requires : tie.Need-find-requires
+find-requires c κs = search needs
+
+load-slot-requires : tie.Need-load-slot-requires
+load-slot-requires c κs = search needs
+
+later-requires : tie.Need-later-requires
+later-requires c κs = search needs
+
+store-slot-requires : tie.Need-store-slot-requires
+store-slot-requires c κs = search needs
+
+same-length : tie.Need-same-length
+same-length c = search needs
+
+returns : tie.Need-returns
+returns c =
+    let a = c .before .before .before .before .before .before .before .before .before .before .before .before .args in
+    let s = sized (c .before .before .before .before .before .before .before .before .before .before .before .before) in
+    let w = now (a .work) in
+    let p = c .before .before .before .before .before .before .before .before .before .before .before .before .pre in
+    let f = c .before .before .before .before .before .before .before .before .before .find in
+    let o = c .before .before .before .before .before .later in
+    let e : o .result ≡ comesAfter (order (trailOf (threadAt w (place (a .half) (f .result)))) (trailOf (a .b))) = o .ensures ∙ ap (λ t. comesAfter (order (trailOf t) (trailOf (a .b)))) (c .before .before .before .before .before .before .load-slot .ensures) in
+    let x = c .before .before .store-slot in
+    leaves (a .half) (a .count) (a .slots) (a .b) w (a .count) (x .last .0) (x .ensures) (inserted-lesser (a .half) (a .count) (a .slots) (a .b) s w (p .0) (p .1) (p .2) (f .result) (f .ensures) (c .before .before .before .before .before .before .before .before .if1 .taken) (sym e ∙ c .before .before .before .before .if2 .taken))
+
+same-length-2 : tie.Need-same-length-2
+same-length-2 c = search needs
+
+returns-2 : tie.Need-returns-2
+returns-2 c =
+    let a = c .before .before .before .before .before .before .before .before .args in
+    let s = sized (c .before .before .before .before .before .before .before .before) in
+    let w = now (a .work) in
+    let p = c .before .before .before .before .before .before .before .before .pre in
+    let f = c .before .before .before .before .before .find in
+    let o = c .before .later in
+    let e : o .result ≡ comesAfter (order (trailOf (threadAt w (place (a .half) (f .result)))) (trailOf (a .b))) = o .ensures ∙ ap (λ t. comesAfter (order (trailOf t) (trailOf (a .b)))) (c .before .before .load-slot .ensures) in
+    inserted-kept (a .half) (a .count) (a .slots) (a .b) s w (p .0) (p .1) (p .2) (f .result) (f .ensures) (c .before .before .before .before .if1 .taken) (sym e ∙ c .if2 .left)
+
+store-slot-requires-2 : tie.Need-store-slot-requires-2
+store-slot-requires-2 c κs = search needs
+
+add-result : tie.Need-add-result
+add-result c = search needs
+
+same-length-3 : tie.Need-same-length-3
+same-length-3 c = search needs
+
+returns-3 : tie.Need-returns-3
+returns-3 c =
+    let a = c .before .before .before .before .before .before .before .before .before .args in
+    let s = sized (c .before .before .before .before .before .before .before .before .before) in
+    let w = now (a .work) in
+    let p = c .before .before .before .before .before .before .before .before .before .pre in
+    let f = c .before .before .before .before .before .before .find in
+    let x = c .before .before .store-slot2 in
+    leaves (a .half) (a .count) (a .slots) (a .b) w (a .count + 1) (x .last .0) (x .ensures) (inserted-more (a .half) (a .count) (a .slots) (a .b) s w (p .0) (p .1) (p .2) (f .result) (f .ensures) (c .before .before .before .before .before .if1 .left) (c .before .before .before .before .if3 .taken))
+
+add-result-2 : tie.Need-add-result-2
+add-result-2 c = search needs
+
+same-length-4 : tie.Need-same-length-4
+same-length-4 c = search needs
+
+returns-4 : tie.Need-returns-4
+returns-4 c =
+    let a = c .before .before .before .before .before .args in
+    let s = sized (c .before .before .before .before .before) in
+    let w = now (a .work) in
+    let p = c .before .before .before .before .before .pre in
+    let f = c .before .before .find in
+    inserted-none (a .half) (a .count) (a .slots) (a .b) s w (p .0) (p .1) (p .2) (f .result) (f .ensures) (c .before .if1 .left) (c .if3 .left)
+
+pub insert-spec : {M : Type 1} → statement M
+insert-spec =
+    tie.close
+    (tie.spec
+    find-requires
+    load-slot-requires
+    later-requires
+    store-slot-requires
+    same-length
+    returns
+    same-length-2
+    returns-2
+    store-slot-requires-2
+    add-result
+    same-length-3
+    returns-3
+    add-result-2
+    same-length-4
+    returns-4)

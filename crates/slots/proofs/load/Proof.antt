@@ -1,0 +1,114 @@
+-- `slots::load` meets its contract, field by field.
+use Rattle.slots.proofs.Words.{threads-equal}
+use Rattle.slots.proofs.Parts.{part-length, put-whole}
+use Rattle.slots.specs.Words.{threadOf}
+use lib.ListN.{replicate, take, drop}
+use denote.Ref.{now}
+use native.Mathlib.Omega.{arith}
+use mathlib.Core.Path.{_≡_, refl, _∙_}
+use borrow.Author.Needs.{needs}
+use Rattle.slots.proofs.load.Statement.{statement}
+use Rattle.slots.proofs.load.Tie as tie
+
+sub-flags-of : tie.Need-sub-flags-of
+sub-flags-of c = search needs
+
+part-flags-of-start : tie.Need-part-flags-of-start
+part-flags-of-start c = search needs
+
+part-flags-of-end : tie.Need-part-flags-of-end
+part-flags-of-end c = search needs
+
+flags-of-requires : tie.Need-flags-of-requires
+flags-of-requires c κs = search needs
+
+slice-aggregate-write : tie.Need-slice-aggregate-write
+slice-aggregate-write c = search needs
+
+sub-write : tie.Need-sub-write
+sub-write c = search needs
+
+part-write-start : tie.Need-part-write-start
+part-write-start c = search needs
+
+part-write-end : tie.Need-part-write-end
+part-write-end c = search needs
+
+write-requires : tie.Need-write-requires
+write-requires c κs = search needs
+
+slice-aggregate-write-2 : tie.Need-slice-aggregate-write-2
+slice-aggregate-write-2 c = search needs
+
+sub-write-2 : tie.Need-sub-write-2
+sub-write-2 c = search needs
+
+part-write-start-2 : tie.Need-part-write-start-2
+part-write-start-2 c = search needs
+
+part-write-end-2 : tie.Need-part-write-end-2
+part-write-end-2 c = search needs
+
+write-requires-2 : tie.Need-write-requires-2
+write-requires-2 c κs = search needs
+
+slice-aggregate-write-3 : tie.Need-slice-aggregate-write-3
+slice-aggregate-write-3 c = search needs
+
+sub-write-3 : tie.Need-sub-write-3
+sub-write-3 c = search needs
+
+part-write-start-3 : tie.Need-part-write-start-3
+part-write-start-3 c = search needs
+
+part-write-end-3 : tie.Need-part-write-end-3
+part-write-end-3 c = search needs
+
+write-requires-3 : tie.Need-write-requires-3
+write-requires-3 c κs = search needs
+
+shared-slice-read-t27 : tie.Need-shared-slice-read-t27
+shared-slice-read-t27 c = search needs
+
+shared-slice-read-t31 : tie.Need-shared-slice-read-t31
+shared-slice-read-t31 c = search needs
+
+returns : tie.Need-returns
+unfolding threadOf
+returns c =
+    let l = now (c .before .before .before .before .before .before .before .before .before .before .before .before .before .before .before .before .before .args .part) in
+    let p = c .before .before .before .before .before .before .before .before .before .before .before .before .before .before .before .before .before .pre in
+    let v = c .before .before .before .before .before .before .before .before .before .before .before .write in
+    let k = c .before .before .before .before .before .before .before .write2 in
+    let t = c .before .before .before .write3 in
+    let ev : v .last .0 ≡ take 8 (drop 9 l) = v .ensures ∙ put-whole (replicate 8 0) (take 8 (drop 9 l)) (part-length 9 8 l (omega arith)) in
+    let ek : k .last .0 ≡ take 16 (drop 17 l) = k .ensures ∙ put-whole (replicate 16 0) (take 16 (drop 17 l)) (part-length 17 16 l (omega arith)) in
+    let et : t .last .0 ≡ take 32 (drop 34 l) = t .ensures ∙ put-whole (replicate 32 0) (take 32 (drop 34 l)) (part-length 34 32 l (omega arith)) in
+    threads-equal _ _ _ _ _ _ _ _ _ _ _ _ refl (c .before .before .before .before .before .before .before .before .before .before .before .before .before .before .flags-of .ensures) ev ek refl et
+
+pub load-spec : {M : Type 1} → statement M
+load-spec =
+    tie.close
+    (tie.spec
+    sub-flags-of
+    part-flags-of-start
+    part-flags-of-end
+    flags-of-requires
+    slice-aggregate-write
+    sub-write
+    part-write-start
+    part-write-end
+    write-requires
+    slice-aggregate-write-2
+    sub-write-2
+    part-write-start-2
+    part-write-end-2
+    write-requires-2
+    slice-aggregate-write-3
+    sub-write-3
+    part-write-start-3
+    part-write-end-3
+    write-requires-3
+    shared-slice-read-t27
+    shared-slice-read-t31
+    returns)

@@ -1,0 +1,75 @@
+-- `slots::same_words` meets its contract: what is left to compare decides.
+use borrow.Author.Tests.{eq-eqb, ne-eqb}
+use lib.Dec.{eqb}
+use Rattle.slots.specs.Threads.{sameList}
+use Rattle.slots.proofs.Comparing.{same-more, same-not, same-all}
+use native.Mathlib.Omega.{arith}
+use denote.Ref.{now}
+use lib.ListN.{length, drop}
+use mathlib.Core.Path.{_≡_, refl, sym}
+use Prim.Native.Nat.{_-_, _≤_}
+use borrow.Author.Needs.{needs}
+use Rattle.slots.proofs.same_words.Statement.{statement}
+use Rattle.slots.proofs.same_words.Tie as tie
+
+abbrev Inv-loop : tie.InvT-loop
+Inv-loop part words i₀ i = (i ≤ length part) × (sameList eqb part words ≡ sameList eqb (drop i part) (drop i words))
+
+abbrev μ-loop : tie.MeasureT-loop
+μ-loop part words i₀ i = length part - i
+
+loop-holds : tie.Need-loop-holds Inv-loop μ-loop
+loop-holds c = (omega arith, refl)
+
+mul-if1 : tie.Need-mul-if1 Inv-loop μ-loop
+mul-if1 c = search needs
+
+shared-slice-read-if1 : tie.Need-shared-slice-read-if1 Inv-loop μ-loop
+shared-slice-read-if1 c = search needs
+
+mul-if1-2 : tie.Need-mul-if1-2 Inv-loop μ-loop
+mul-if1-2 c = search needs
+
+shared-slice-read-if1-2 : tie.Need-shared-slice-read-if1-2 Inv-loop μ-loop
+shared-slice-read-if1-2 c = search needs
+
+returns : tie.Need-returns Inv-loop μ-loop
+returns c =
+    let a = c .before .before .before .before .before .args in
+    let l = c .before .before .before .before .loop in
+    sym (same-not eqb (now (a .part)) (now (a .words)) (l .i) 0 (sameList eqb (now (a .part)) (now (a .words))) (omega arith) (omega arith) (l .inv .1) (ne-eqb _ _ (c .if1 .taken)))
+
+add-i : tie.Need-add-i Inv-loop μ-loop
+add-i c = search needs
+
+loop-less : tie.Need-loop-less Inv-loop μ-loop
+loop-less c = search needs
+
+loop-again : tie.Need-loop-again Inv-loop μ-loop
+loop-again c =
+    let a = c .before .before .before .before .before .args in
+    let l = c .before .before .before .before .loop in
+    (omega arith, same-more eqb (now (a .part)) (now (a .words)) (l .i) 0 (sameList eqb (now (a .part)) (now (a .words))) (omega arith) (omega arith) (l .inv .1) (eq-eqb _ _ (c .if1 .left)))
+
+returns-2 : tie.Need-returns-2 Inv-loop μ-loop
+returns-2 c =
+    let a = c .before .before .args in
+    let l = c .before .loop in
+    sym (same-all eqb (now (a .part)) (now (a .words)) (l .i) (sameList eqb (now (a .part)) (now (a .words))) (omega arith) (omega arith) (l .inv .1))
+
+pub same-words-spec : {M : Type 1} → statement M
+same-words-spec =
+    tie.close
+    (tie.spec
+    Inv-loop
+    μ-loop
+    loop-holds
+    mul-if1
+    shared-slice-read-if1
+    mul-if1-2
+    shared-slice-read-if1-2
+    returns
+    add-i
+    loop-less
+    loop-again
+    returns-2)

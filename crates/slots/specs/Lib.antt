@@ -1,0 +1,3 @@
+-- Definitions of threads, and of the words that hold them.
+pub mod Threads
+pub mod Words

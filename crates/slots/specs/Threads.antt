@@ -1,0 +1,96 @@
+-- A thread (a configuration with its least trail) as a struct: its trail, telling configurations apart, inserting into a list.
+use Prim.Native.Nat.{ℕ, zero, suc, _+_, _*_, _/_, _%_, Ordering, Ordering·lt, Ordering·eq, Ordering·gt}
+use mathlib.Core.Path.{_≡_}
+use mathlib.Core.Bool.{Bool, true, false, _&&_, Bool·beq}
+use mathlib.Core.List.{List, [], _∷_, _++_, map}
+use lib.ListN.{length, take, set}
+use lib.Dec.{eqb}
+use Rattle.runs.specs.Run.{Entry, Trail}
+use Rattle.runs.specs.Order.{order}
+use Rattle.slots.specs.declared.Thread.{Thread}
+use Rattle.slots.specs.declared.Side.{Side}
+use Rattle.slots.specs.declared.Side.the-variants.{Lesser, Equal, Greater}
+
+-- a trail word is event * 8 + step number
+abbrev pub entryOf : ℕ → Entry
+entryOf w = record { event = w / 8; step = w % 8 }
+
+-- the trail: as many entries as steps were taken
+unfoldable pub trailOf : Thread → Trail
+trailOf t = map entryOf (take (t .steps) (t .trail))
+
+-- the struct's arrays have their lengths, as every value of the struct does
+pub record Sized (t : Thread) : Type 0 where
+  pub held-8 : length (t .held) ≡ 8
+  pub values-8 : length (t .values) ≡ 8
+  pub counters-16 : length (t .counters) ≡ 16
+  pub trail-32 : length (t .trail) ≡ 32
+
+-- two lists have the same elements, by a test on elements
+unfoldable pub sameList : {A : Type 0} → (A → A → Bool) → List A → List A → Bool
+sameList same [] [] = true
+sameList same [] (y ∷ ys) = false
+sameList same (x ∷ xs) [] = false
+sameList same (x ∷ xs) (y ∷ ys) = same x y && sameList same xs ys
+
+-- the same configuration: state, held variables, values and counters; not the trail
+unfoldable pub sameConfig : Thread → Thread → Bool
+sameConfig a b = eqb (a .state) (b .state) && sameList Bool·beq (a .held) (b .held) && sameList eqb (a .values) (b .values) && sameList eqb (a .counters) (b .counters)
+
+-- what a comparison says of the first against the second: it comes after
+abbrev pub comesAfter : Ordering → Bool
+comesAfter Ordering·lt = false
+comesAfter Ordering·eq = false
+comesAfter Ordering·gt = true
+
+abbrev pub replaced : Bool → Thread → Thread → Thread
+replaced true a b = b
+replaced false a b = a
+
+-- the lesser trail of two: b only where a comes after it
+unfoldable pub lesserThread : Thread → Thread → Thread
+lesserThread a b = replaced (comesAfter (order (trailOf a) (trailOf b))) a b
+
+abbrev pub placed : Bool → Thread → Thread → List Thread → List Thread → List Thread
+placed true a b rest further = lesserThread a b ∷ rest
+placed false a b rest further = a ∷ further
+
+-- the same configuration: the lesser trail is kept; else one thread more, at the end
+unfoldable pub insertThread : Thread → List Thread → List Thread
+insertThread b [] = b ∷ []
+insertThread b (a ∷ rest) = placed (sameConfig a b) a b rest (insertThread b rest)
+
+abbrev pub foundOr : Bool → ℕ → ℕ
+foundOr true further = zero
+foundOr false further = suc further
+
+-- where the first thread with b's configuration stands; the list's length where there is none
+unfoldable pub position : Thread → List Thread → ℕ
+position b [] = zero
+position b (a ∷ rest) = foundOr (sameConfig a b) (position b rest)
+
+-- a thread with one step more in its trail; its configuration stays
+abbrev pub withStep : Thread → ℕ → ℕ → Thread
+withStep t event number = record { state = t .state; held = t .held; values = t .values; counters = t .counters; steps = t .steps + 1; trail = set (t .trail) (t .steps) (event * 8 + number) }
+
+pub record Extended (t : Thread) (event number : ℕ) (r : Thread) : Type 0 where
+  pub fields : r ≡ withStep t event number
+  pub trail : trailOf r ≡ trailOf t ++ (record { event = event; step = number } ∷ [])
+
+-- what a trail word is compared by: its step number, or its event
+abbrev pub key : Bool → ℕ → ℕ
+key true w = w % 8
+key false w = w / 8
+
+abbrev pub sideOf : Ordering → Side
+sideOf Ordering·lt = Lesser
+sideOf Ordering·eq = Equal
+sideOf Ordering·gt = Greater
+
+-- 'then by': the second comparison decides where the first is equal
+abbrev pub greaterOf : Side → Side → Bool
+greaterOf Lesser numbers = false
+greaterOf Greater numbers = true
+greaterOf Equal Lesser = false
+greaterOf Equal Equal = false
+greaterOf Equal Greater = true

@@ -1,0 +1,318 @@
+// Threads kept in lent words: loading and storing a slot (the paper's seat), and inserting a thread into a list of them.
+ghost use mathlib.Core.Path.{_≡_};
+ghost use mathlib.Core.Bool.{Bool·beq};
+ghost use mathlib.Core.List.{_++_, map};
+ghost use lib.Dec.{eqb};
+ghost use Prim.Native.Nat.{_+_, _*_, _^_, _≤_, _<_, min};
+ghost use lib.ListN.{length, drop};
+ghost use Rattle.runs.specs.Order.{lex, order};
+ghost use Rattle.slots.specs.Threads.{trailOf, sameList, sameConfig, comesAfter, withStep, Extended, key, sideOf, greaterOf, position};
+ghost use Rattle.slots.specs.Words.{flag, bit, wordsOf, threadOf, threadAt, put, place, list, Inserted};
+
+// A configuration with its trail: 'a state, the held variables with values, and a counter per state', the number of steps taken and,
+// for each of them, event * 8 + step number.
+pub struct Thread {
+    pub state: u32,
+    pub held: [bool; 8],
+    pub values: [u32; 8],
+    pub counters: [u32; 16],
+    pub steps: u32,
+    pub trail: [u32; 32],
+}
+
+// How one list of numbers compares with another.
+enum Side {
+    Lesser,
+    Equal,
+    Greater,
+}
+
+// Writes words into a part, from an offset on.
+fn write(part: &mut [u32], at: usize, words: &[u32])
+    requires { ⌜ at + length (now words) ≤ length (now part) ⌝ }
+    ensures { λ _. ⌜ now (part .exit) ≡ put (now (part .entry)) at (now (words .entry)) ⌝ }
+{
+    let mut i: usize = 0;
+    while i < words.len() {
+        part[at + i] = words[i];
+        i += 1;
+    }
+}
+
+// A flag as a word.
+fn flag_word(held: bool) -> u32
+    ensures { λ r. ⌜ r ≡ flag held ⌝ }
+{
+    if held { 1 } else { 0 }
+}
+
+// Which variables are held, a word each.
+fn flag_words(held: [bool; 8]) -> [u32; 8]
+    ensures { λ r. ⌜ r ≡ map flag held ⌝ }
+{
+    let mut words = [0u32; 8];
+    let mut i: usize = 0;
+    while i < 8 {
+        words[i] = flag_word(held[i]);
+        i += 1;
+    }
+    words
+}
+
+// Which variables are held, from a word each.
+fn flags_of(part: &[u32]) -> [bool; 8]
+    requires { ⌜ length (now part) ≡ 8 ⌝ }
+    ensures { λ r. ⌜ r ≡ map bit (now (part .entry)) ⌝ }
+{
+    let mut held = [false; 8];
+    let mut i: usize = 0;
+    while i < 8 {
+        held[i] = part[i] != 0;
+        i += 1;
+    }
+    held
+}
+
+// The thread that a half's words hold.
+pub fn load(part: &[u32]) -> Thread
+    requires { ⌜ 66 ≤ length (now part) ⌝ }
+    ensures { λ r. ⌜ r ≡ threadOf (now (part .entry)) ⌝ }
+{
+    let held = flags_of(&part[1..9]);
+    let mut values = [0u32; 8];
+    write(&mut values, 0, &part[9..17]);
+    let mut counters = [0u32; 16];
+    write(&mut counters, 0, &part[17..33]);
+    let mut trail = [0u32; 32];
+    write(&mut trail, 0, &part[34..66]);
+    Thread {
+        state: part[0],
+        held,
+        values,
+        counters,
+        steps: part[33],
+        trail,
+    }
+}
+
+// Writes a thread over a half's first 66 words.
+pub fn store(part: &mut [u32], t: Thread)
+    requires { ⌜ 66 ≤ length (now part) ⌝ }
+    ensures { λ _. ⌜ now (part .exit) ≡ wordsOf t ++ drop 66 (now (part .entry)) ⌝ }
+{
+    let held = t.held;
+    let flags = flag_words(held);
+    let values = t.values;
+    let counters = t.counters;
+    let trail = t.trail;
+    part[0] = t.state;
+    write(part, 1, &flags);
+    write(part, 9, &values);
+    write(part, 17, &counters);
+    part[33] = t.steps;
+    write(part, 34, &trail);
+}
+
+// Where a half of a slot begins. Here alone stands the arithmetic of slots.
+fn offset(slot: usize, half: usize) -> usize
+    requires { ⌜ (slot * 192 + 192 < 2 ^ 64) × (half < 2) ⌝ }
+    ensures { λ r. ⌜ r ≡ place half slot ⌝ }
+{
+    slot * 192 + half * 96
+}
+
+// The thread of a slot in one half.
+pub fn load_slot(work: &[u32], slot: usize, half: usize) -> Thread
+    requires { ⌜ (slot * 192 + 192 ≤ length (now work)) × (half < 2) ⌝ }
+    ensures { λ r. ⌜ r ≡ threadAt (now (work .entry)) (place half slot) ⌝ }
+{
+    let a = offset(slot, half);
+    let e = a + 96;
+    load(&work[a..e])
+}
+
+// Writes a thread into one half of a slot.
+pub fn store_slot(work: &mut [u32], slot: usize, half: usize, t: Thread)
+    requires { ⌜ (slot * 192 + 192 ≤ length (now work)) × (half < 2) ⌝ }
+    ensures { λ _. ⌜ now (work .exit) ≡ put (now (work .entry)) (place half slot) (wordsOf t) ⌝ }
+{
+    let a = offset(slot, half);
+    let e = a + 96;
+    store(&mut work[a..e], t);
+}
+
+// Whether two parts hold the same words.
+fn same_words(part: &[u32], words: &[u32]) -> bool
+    requires { ⌜ length (now words) ≡ length (now part) ⌝ }
+    ensures { λ r. ⌜ r ≡ sameList eqb (now (part .entry)) (now (words .entry)) ⌝ }
+{
+    let mut i: usize = 0;
+    while i < part.len() {
+        if part[i] != words[i] {
+            return false;
+        }
+        i += 1;
+    }
+    true
+}
+
+// Whether a word says what a flag says.
+fn agrees(word: u32, held: bool) -> bool
+    ensures { λ r. ⌜ r ≡ Bool·beq (bit word) held ⌝ }
+{
+    if held { word != 0 } else { word == 0 }
+}
+
+// Whether a part's words hold the same variables.
+fn same_flags(part: &[u32], held: [bool; 8]) -> bool
+    requires { ⌜ length (now part) ≡ 8 ⌝ }
+    ensures { λ r. ⌜ r ≡ sameList Bool·beq (map bit (now (part .entry))) held ⌝ }
+{
+    let mut i: usize = 0;
+    while i < 8 {
+        if agrees(part[i], held[i]) {
+            i += 1;
+        } else {
+            return false;
+        }
+    }
+    true
+}
+
+// Whether a half's words hold a thread's configuration; the trails are not looked at.
+pub fn same_at(part: &[u32], b: Thread) -> bool
+    requires { ⌜ 66 ≤ length (now part) ⌝ }
+    ensures { λ r. ⌜ r ≡ sameConfig (threadOf (now (part .entry))) b ⌝ }
+{
+    if part[0] != b.state {
+        return false;
+    }
+    let held = b.held;
+    if !same_flags(&part[1..9], held) {
+        return false;
+    }
+    let values = b.values;
+    if !same_words(&part[9..17], &values) {
+        return false;
+    }
+    let counters = b.counters;
+    same_words(&part[17..33], &counters)
+}
+
+// What a trail word is compared by: its event, or its step number.
+fn key_of(number: bool, word: u32) -> u32
+    ensures { λ r. ⌜ r ≡ key number word ⌝ }
+{
+    if number { word % 8 } else { word / 8 }
+}
+
+// Compares two trails at the first difference of their events, or of their step numbers.
+fn compared(a: &[u32], b: &[u32], number: bool) -> Side
+    ensures { λ r. ⌜ r ≡ sideOf (lex (map (key number) (now (a .entry))) (map (key number) (now (b .entry)))) ⌝ }
+{
+    let mut i: usize = 0;
+    while i < a.len() {
+        if b.len() <= i {
+            return Side::Greater;
+        }
+        let x = key_of(number, a[i]);
+        let y = key_of(number, b[i]);
+        if x < y {
+            return Side::Lesser;
+        }
+        if y < x {
+            return Side::Greater;
+        }
+        i += 1;
+    }
+    if i < b.len() {
+        Side::Lesser
+    } else {
+        Side::Equal
+    }
+}
+
+// Whether the first comparison, and where that is equal the second, says greater.
+fn greater(events: Side, numbers: Side) -> bool
+    ensures { λ r. ⌜ r ≡ greaterOf events numbers ⌝ }
+{
+    match events {
+        Side::Lesser => false,
+        Side::Greater => true,
+        Side::Equal => match numbers {
+            Side::Lesser => false,
+            Side::Equal => false,
+            Side::Greater => true,
+        },
+    }
+}
+
+// How many trail words count.
+fn capped(steps: u32) -> usize
+    ensures { λ r. ⌜ r ≡ min steps 32 ⌝ }
+{
+    if steps < 32 { steps as usize } else { 32 }
+}
+
+// Whether a's trail comes after b's: first by the events, then by the step numbers.
+pub fn later(a: Thread, b: Thread) -> bool
+    ensures { λ r. ⌜ r ≡ comesAfter (order (trailOf a) (trailOf b)) ⌝ }
+{
+    let m = capped(a.steps);
+    let n = capped(b.steps);
+    let ours = a.trail;
+    let theirs = b.trail;
+    let events = compared(&ours[..m], &theirs[..n], false);
+    let numbers = compared(&ours[..m], &theirs[..n], true);
+    greater(events, numbers)
+}
+
+// A thread with one step more in its trail.
+pub fn with_step(t: Thread, event: u32, number: u32) -> Thread
+    requires { ⌜ (t .steps < 32) × (event < 1024) × (number < 8) ⌝ }
+    ensures { λ r. ⌜ Extended t event number r ⌝ }
+{
+    let at = t.steps as usize;
+    let mut next = t;
+    next.steps = t.steps + 1;
+    next.trail[at] = event * 8 + number;
+    next
+}
+
+// The first of the threads with b's configuration; their count where there is none.
+fn find(work: &[u32], half: usize, count: usize, b: Thread) -> usize
+    requires { ⌜ (count * 192 ≤ length (now work)) × (half < 2) ⌝ }
+    ensures { λ r. ⌜ r ≡ position b (list half count (now (work .entry))) ⌝ }
+{
+    let mut i: usize = 0;
+    while i < count {
+        let a = offset(i, half);
+        let e = a + 96;
+        if same_at(&work[a..e], b) {
+            return i;
+        }
+        i += 1;
+    }
+    count
+}
+
+// Inserts a thread into the list of one half: where a thread has its configuration the lesser trail is kept, else it is
+// appended; without room every word stays. The count of the list then, one more than the slots where there is no room.
+pub fn insert(work: &mut [u32], half: usize, count: usize, slots: usize, b: Thread) -> usize
+    requires { ⌜ (slots * 192 ≤ length (now work)) × (half < 2) × (count ≤ slots) ⌝ }
+    ensures { λ r. ⌜ Inserted half count slots b (now (work .entry)) (now (work .exit)) r ⌝ }
+{
+    let at = find(&work[..], half, count, b);
+    if at < count {
+        let a = load_slot(&work[..], at, half);
+        if later(a, b) {
+            store_slot(work, at, half, b);
+        }
+        return count;
+    }
+    if count < slots {
+        store_slot(work, count, half, b);
+        return count + 1;
+    }
+    slots + 1
+}
