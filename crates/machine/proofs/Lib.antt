@@ -8,3 +8,4 @@ pub mod Machine
 pub mod Walk
 pub mod Examples
 pub mod Agreement
+pub mod Premises

@@ -214,7 +214,7 @@ module _ (log : Log) (formula : Formula) (P : Premises log formula) where
       go (some s) q = silent-step (log .fields) (latest log n) (eventAt log m) (grow-to n m (omega arith) j) (length (formula .states)) c s v q
 
   -- The machine keeps every law that the search is exact by.
-  pub laws : Laws (machine log formula)
+  unfoldable pub laws : Laws (machine log formula)
   unfolding start
   laws = record {
     same-equal = same-equal;

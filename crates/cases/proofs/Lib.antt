@@ -1,0 +1,3 @@
+-- The cases proved against the definitions, and the order of events with one time.
+pub mod Bench
+pub mod Exchange

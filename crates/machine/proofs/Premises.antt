@@ -1,0 +1,66 @@
+-- A correct log and a correct formula keep what the theory of runs asks of their machine.
+use Prim.Native.Nat.{ℕ, _<_}
+use mathlib.Core.Path.{_≡_, refl}
+use mathlib.Core.Bool.{false}
+use mathlib.Core.List.{List, [], _∷_, _++_, map, flatMap}
+use lib.ListN.{length, getElem?}
+use Rattle.base.specs.Lists.{All}
+use Rattle.event_log.specs.Log.{Log}
+use Rattle.event_log.specs.Correct as LogCorrect
+use Rattle.formula.specs.Formula.{Formula, State, StateKind, ordinary, committed, accept, reject, Step}
+use Rattle.formula.specs.Encode.{TIED, CLAUSE, guardCommands, stepCommands, stateCommands, commands}
+use Rattle.formula.specs.Correct as FormulaCorrect
+use Rattle.formula.proofs.Basics.{all-right, all-left}
+use Rattle.machine.specs.Configuration.{start}
+use Rattle.machine.specs.Machine.{kindIs, isFinal, final, machine}
+use Rattle.machine.proofs.Machine.{Premises, laws}
+use Rattle.runs.specs.Machine.{Laws}
+
+-- no STEP names an absent state
+steps-declared : (fields states : ℕ) (ts : List Step) → All (FormulaCorrect.Exists fields states) (flatMap stepCommands ts) → All (λ (t : Step). t .target < states) ts
+unfolding flatMap stepCommands
+steps-declared fields states [] h = tt
+steps-declared fields states (t ∷ ts) h =
+    (h .0, steps-declared fields states ts (all-right (FormulaCorrect.Exists fields states) (map CLAUSE (t .clauses) ++ guardCommands (t .guard)) (flatMap stepCommands ts) (h .1)))
+
+targets-declared : (fields states : ℕ) (xs : List State) → All (FormulaCorrect.Exists fields states) (flatMap stateCommands xs) → All (λ (s : State). All (λ (t : Step). t .target < states) (s .steps)) xs
+unfolding flatMap stateCommands
+targets-declared fields states [] h = tt
+targets-declared fields states (x ∷ xs) h =
+    (steps-declared fields states (x .steps) (all-left (FormulaCorrect.Exists fields states) (flatMap stepCommands (x .steps)) (flatMap stateCommands xs) (h .1)), targets-declared fields states xs (all-right (FormulaCorrect.Exists fields states) (flatMap stepCommands (x .steps)) (flatMap stateCommands xs) (h .1)))
+
+-- no dead start
+open-kind : (k : StateKind) → FormulaCorrect.final k ≡ false → isFinal k ≡ false
+open-kind ordinary h = refl
+open-kind committed h = refl
+open-kind accept h = h
+open-kind reject h = h
+
+open-first : (xs : List State) → FormulaCorrect.deadStart xs ≡ false → kindIs isFinal (getElem? xs 0) ≡ false
+open-first [] h = refl
+open-first (x ∷ xs) h = open-kind (x .kind) h
+
+module _ (g : Log) (fm : Formula) (log : LogCorrect.Correct g) (formula : FormulaCorrect.Correct (g .fields) fm) where
+  open-start : final fm start ≡ false
+  unfolding final start
+  open-start = open-first (fm .states) (formula .start)
+
+  pub premises : Premises g fm
+  unfolding LogCorrect.value commands
+  premises =
+      record {
+        never-falls = log .never-falls;
+        values-fit = log .values-fit;
+        some-state = formula .nonempty;
+        most-states = formula .states;
+        targets = targets-declared (length (g .fields)) (length (fm .states)) (fm .states) (all-right (FormulaCorrect.Exists (length (g .fields)) (length (fm .states))) (map TIED (fm .tied)) (flatMap stateCommands (fm .states)) (formula .values));
+        open-start = open-start;
+      }
+
+  -- the machine of a correct log and a correct formula keeps every law that the search is exact by, from event 0 on
+  unfoldable pub keeps : Laws (machine g fm)
+  keeps = laws g fm premises
+
+  pub keeps-first : keeps .first ≡ 0
+  unfolding keeps laws
+  keeps-first = refl

@@ -1,0 +1,3 @@
+-- Accepted files make a machine that keeps the laws, and the search over them meets the third demand.
+pub mod Premises
+pub mod Demand
