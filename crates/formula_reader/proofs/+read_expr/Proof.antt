@@ -1,0 +1,265 @@
+-- `formula::read_expr` meets its contract: the loop keeps the front that was read, and each operand is one level less deep.
+use Rattle.formula.specs.Read.{readExpr}
+use Rattle.formula_reader.specs.Prefix.{shape}
+use borrow.Author.Needs.{needs}
+use Rattle.formula_reader.proofs.CodeGuard.{Going, begun, refused-head, refused-operand, with-operand, ended, part-rest}
+use Rattle.formula_reader.specs.Prefix.{joined}
+use lib.ListN.{length, take, drop, length-drop}
+use native.Mathlib.Omega.{arith}
+use mathlib.Core.Path.{_≡_, sym, subst, _∙_, ap}
+use Prim.Native.Nat.{ℕ, _<_, _≤_, _-_, _+_}
+use borrow.Fn.Kinds.{In}
+use borrow.Fn.PlainCycle.{Measures, is, falls, and}
+use Rattle.formula_reader.proofs.read_expr.Reads as read-expr
+use Rattle.formula_reader.proofs.read_expr.Kinds as read-expr-kinds
+use Rattle.formula_reader.proofs.+read_expr.Lts-read_expr as read-expr-lts
+use Rattle.formula_reader.proofs.expr_head.Reads as expr-head-reads
+use Rattle.formula_reader.proofs.join.Reads as join-reads
+use Rattle.formula_reader.proofs.+read_expr.{statement}
+use Rattle.formula_reader.proofs.+read_expr.Tie.{close}
+
+abbrev μ-read-expr : Measures 1 read-expr-kinds.ps ℕ
+μ-read-expr κs a = a .1 .1 .0
+
+abbrev read-expr-at : ℕ → In 1 read-expr-kinds.ps
+read-expr-at t = and 1 read-expr-kinds.ps (is 1 read-expr-kinds.ps μ-read-expr t) read-expr.Pre
+
+abbrev read-expr-below : ℕ → In 1 read-expr-kinds.ps
+read-expr-below t =
+    and 1 read-expr-kinds.ps (falls 1 read-expr-kinds.ps _<_ μ-read-expr t) read-expr.Pre
+
+abbrev read-expr-Inv-loop : read-expr-lts.InvT-loop
+read-expr-Inv-loop part at depth left bad limit whole₀ whole = Going bad limit depth left at part whole
+
+abbrev read-expr-μ-loop : read-expr-lts.MeasureT-loop
+read-expr-μ-loop part at depth left bad limit whole₀ whole = whole .operands
+
+read-expr-expr-head-requires : (t : ℕ) → read-expr-lts.Need-expr-head-requires (
+  expr-head-reads.Asked,
+  expr-head-reads.Learnt,
+  read-expr-below t,
+  read-expr.Post,
+  join-reads.Asked,
+  join-reads.Learnt,
+) (read-expr-at t) read-expr.Post read-expr-Inv-loop read-expr-μ-loop
+read-expr-expr-head-requires t c κs = search needs
+
+read-expr-enum-known-head : (t : ℕ) → read-expr-lts.Need-enum-known-head (
+  expr-head-reads.Asked,
+  expr-head-reads.Learnt,
+  read-expr-below t,
+  read-expr.Post,
+  join-reads.Asked,
+  join-reads.Learnt,
+) (read-expr-at t) read-expr.Post read-expr-Inv-loop read-expr-μ-loop
+read-expr-enum-known-head t c = search needs
+
+read-expr-enum-told : (t : ℕ) → read-expr-lts.Need-enum-told (
+  expr-head-reads.Asked,
+  expr-head-reads.Learnt,
+  read-expr-below t,
+  read-expr.Post,
+  join-reads.Asked,
+  join-reads.Learnt,
+) (read-expr-at t) read-expr.Post read-expr-Inv-loop read-expr-μ-loop
+read-expr-enum-told t c = search needs
+
+read-expr-returns : (t : ℕ) → read-expr-lts.Need-returns (
+  expr-head-reads.Asked,
+  expr-head-reads.Learnt,
+  read-expr-below t,
+  read-expr.Post,
+  join-reads.Asked,
+  join-reads.Learnt,
+) (read-expr-at t) read-expr.Post read-expr-Inv-loop read-expr-μ-loop
+read-expr-returns t c = c .enum-told .given .1 ∙ refused-head (c .before .before .before .before .args .bad) (c .before .before .before .before .args .limit) (c .before .before .before .before .args .depth) (c .before .before .before .before .args .left) (c .before .before .before .before .args .at) (c .before .before .before .before .args .part .now) _ (sym (c .enum-told .given .1) ∙ c .before .before .expr-head .ensures)
+
+read-expr-loop-holds : (t : ℕ) → read-expr-lts.Need-loop-holds (
+  expr-head-reads.Asked,
+  expr-head-reads.Learnt,
+  read-expr-below t,
+  read-expr.Post,
+  join-reads.Asked,
+  join-reads.Learnt,
+) (read-expr-at t) read-expr.Post read-expr-Inv-loop read-expr-μ-loop
+read-expr-loop-holds t c = begun (c .before .before .before .before .before .args .bad) (c .before .before .before .before .before .args .limit) (c .before .before .before .before .before .args .depth) (c .before .before .before .before .before .args .left) (c .before .before .before .before .before .args .at) (c .before .before .before .before .before .args .part .now) _ (sym (c .before .head .given .1) ∙ c .before .before .before .expr-head .ensures)
+
+read-expr-sub-read-expr : (t : ℕ) → read-expr-lts.Need-sub-read-expr (
+  expr-head-reads.Asked,
+  expr-head-reads.Learnt,
+  read-expr-below t,
+  read-expr.Post,
+  join-reads.Asked,
+  join-reads.Learnt,
+) (read-expr-at t) read-expr.Post read-expr-Inv-loop read-expr-μ-loop
+read-expr-sub-read-expr t c = search needs
+
+read-expr-part-read-expr-start : (t : ℕ) → read-expr-lts.Need-part-read-expr-start (
+  expr-head-reads.Asked,
+  expr-head-reads.Learnt,
+  read-expr-below t,
+  read-expr.Post,
+  join-reads.Asked,
+  join-reads.Learnt,
+) (read-expr-at t) read-expr.Post read-expr-Inv-loop read-expr-μ-loop
+read-expr-part-read-expr-start t c = search needs
+
+read-expr-part-read-expr-end : (t : ℕ) → read-expr-lts.Need-part-read-expr-end (
+  expr-head-reads.Asked,
+  expr-head-reads.Learnt,
+  read-expr-below t,
+  read-expr.Post,
+  join-reads.Asked,
+  join-reads.Learnt,
+) (read-expr-at t) read-expr.Post read-expr-Inv-loop read-expr-μ-loop
+read-expr-part-read-expr-end t c = search needs
+
+read-expr-add-read-expr : (t : ℕ) → read-expr-lts.Need-add-read-expr (
+  expr-head-reads.Asked,
+  expr-head-reads.Learnt,
+  read-expr-below t,
+  read-expr.Post,
+  join-reads.Asked,
+  join-reads.Learnt,
+) (read-expr-at t) read-expr.Post read-expr-Inv-loop read-expr-μ-loop
+read-expr-add-read-expr t c = search needs
+
+read-expr-sub-read-expr-2 : (t : ℕ) → read-expr-lts.Need-sub-read-expr-2 (
+  expr-head-reads.Asked,
+  expr-head-reads.Learnt,
+  read-expr-below t,
+  read-expr.Post,
+  join-reads.Asked,
+  join-reads.Learnt,
+) (read-expr-at t) read-expr.Post read-expr-Inv-loop read-expr-μ-loop
+read-expr-sub-read-expr-2 t c = search needs
+
+read-expr-read-expr-requires : (t : ℕ) → read-expr-lts.Need-read-expr-requires (
+  expr-head-reads.Asked,
+  expr-head-reads.Learnt,
+  read-expr-below t,
+  read-expr.Post,
+  join-reads.Asked,
+  join-reads.Learnt,
+) (read-expr-at t) read-expr.Post read-expr-Inv-loop read-expr-μ-loop
+read-expr-read-expr-requires t c κs =
+    let i : c .before .before .before .loop .whole .used ≤ length (c .before .before .before .before .before .before .before .before .before .args .part .now) = c .before .before .before .loop .inv .inside in
+    let d : 0 < c .before .before .before .before .before .before .before .before .before .args .depth = c .before .before .before .loop .inv .deep in
+    let m : c .before .before .before .before .before .before .before .before .before .args .depth ≡ t = c .before .before .before .before .before .before .before .before .before .pre .0 in
+    let q : c .before .before .before .before .before .before .before .before .before .args .at + length (c .before .before .before .before .before .before .before .before .before .args .part .now) < 18446744073709551616 = c .before .before .before .before .before .before .before .before .before .pre .1 in
+    let l : length (take (length (c .before .before .before .before .before .before .before .before .before .args .part .now) - c .before .before .before .loop .whole .used) (drop (c .before .before .before .loop .whole .used) (c .before .before .before .before .before .before .before .before .before .args .part .now))) ≡ length (c .before .before .before .before .before .before .before .before .before .args .part .now) - c .before .before .before .loop .whole .used = ap length (part-rest (c .before .before .before .before .before .before .before .before .before .args .part .now) (c .before .before .before .loop .whole .used)) ∙ length-drop (c .before .before .before .loop .whole .used) (c .before .before .before .before .before .before .before .before .before .args .part .now) in
+    (omega (arith, m, d), rw l (omega (arith, i, q)))
+
+read-expr-enum-known-operand : (t : ℕ) → read-expr-lts.Need-enum-known-operand (
+  expr-head-reads.Asked,
+  expr-head-reads.Learnt,
+  read-expr-below t,
+  read-expr.Post,
+  join-reads.Asked,
+  join-reads.Learnt,
+) (read-expr-at t) read-expr.Post read-expr-Inv-loop read-expr-μ-loop
+read-expr-enum-known-operand t c = search needs
+
+read-expr-enum-told-2 : (t : ℕ) → read-expr-lts.Need-enum-told-2 (
+  expr-head-reads.Asked,
+  expr-head-reads.Learnt,
+  read-expr-below t,
+  read-expr.Post,
+  join-reads.Asked,
+  join-reads.Learnt,
+) (read-expr-at t) read-expr.Post read-expr-Inv-loop read-expr-μ-loop
+read-expr-enum-told-2 t c = search needs
+
+read-expr-returns-2 : (t : ℕ) → read-expr-lts.Need-returns-2 (
+  expr-head-reads.Asked,
+  expr-head-reads.Learnt,
+  read-expr-below t,
+  read-expr.Post,
+  join-reads.Asked,
+  join-reads.Learnt,
+) (read-expr-at t) read-expr.Post read-expr-Inv-loop read-expr-μ-loop
+read-expr-returns-2 t c =
+    let e = c .before .before .read-expr .ensures ∙ ap (λ bs. shape (c .before .before .before .before .before .before .before .before .before .before .before .before .args .bad) (c .before .before .before .before .before .before .before .before .before .before .before .before .args .limit) (c .before .before .before .before .before .before .before .before .before .before .before .before .args .at + c .before .before .before .before .before .before .loop .whole .used) (readExpr (c .before .before .before .before .before .before .before .before .before .before .before .before .args .depth - 1) (c .before .before .before .before .before .before .loop .whole .left) (c .before .before .before .before .before .before .before .before .before .before .before .before .args .at + c .before .before .before .before .before .before .loop .whole .used) bs)) (part-rest (c .before .before .before .before .before .before .before .before .before .before .before .before .args .part .now) (c .before .before .before .before .before .before .loop .whole .used)) in
+    c .enum-told2 .given .1 ∙ refused-operand (c .before .before .before .before .before .before .before .before .before .before .before .before .args .bad) (c .before .before .before .before .before .before .before .before .before .before .before .before .args .limit) (c .before .before .before .before .before .before .before .before .before .before .before .before .args .depth) (c .before .before .before .before .before .before .before .before .before .before .before .before .args .left) (c .before .before .before .before .before .before .before .before .before .before .before .before .args .at) (c .before .before .before .before .before .before .before .before .before .before .before .before .args .part .now) (c .before .before .before .before .before .before .loop .whole) _ (c .before .before .before .before .before .before .loop .inv) (c .before .before .before .before .if1 .taken) (sym (c .enum-told2 .given .1) ∙ e)
+
+read-expr-join-requires : (t : ℕ) → read-expr-lts.Need-join-requires (
+  expr-head-reads.Asked,
+  expr-head-reads.Learnt,
+  read-expr-below t,
+  read-expr.Post,
+  join-reads.Asked,
+  join-reads.Learnt,
+) (read-expr-at t) read-expr.Post read-expr-Inv-loop read-expr-μ-loop
+read-expr-join-requires t c κs =
+    let e = c .before .before .before .read-expr .ensures ∙ ap (λ bs. shape (c .before .before .before .before .before .before .before .before .before .before .before .before .before .args .bad) (c .before .before .before .before .before .before .before .before .before .before .before .before .before .args .limit) (c .before .before .before .before .before .before .before .before .before .before .before .before .before .args .at + c .before .before .before .before .before .before .before .loop .whole .used) (readExpr (c .before .before .before .before .before .before .before .before .before .before .before .before .before .args .depth - 1) (c .before .before .before .before .before .before .before .loop .whole .left) (c .before .before .before .before .before .before .before .before .before .before .before .before .before .args .at + c .before .before .before .before .before .before .before .loop .whole .used) bs)) (part-rest (c .before .before .before .before .before .before .before .before .before .before .before .before .before .args .part .now) (c .before .before .before .before .before .before .before .loop .whole .used)) in
+    let w = with-operand (c .before .before .before .before .before .before .before .before .before .before .before .before .before .args .bad) (c .before .before .before .before .before .before .before .before .before .before .before .before .before .args .limit) (c .before .before .before .before .before .before .before .before .before .before .before .before .before .args .depth) (c .before .before .before .before .before .before .before .before .before .before .before .before .before .args .left) (c .before .before .before .before .before .before .before .before .before .before .before .before .before .args .at) (c .before .before .before .before .before .before .before .before .before .before .before .before .before .args .part .now) (c .before .before .before .before .before .before .before .loop .whole) (c .before .operand .given .0 .0) (c .before .before .before .before .before .before .before .loop .inv) (c .before .before .before .before .before .if1 .taken) (sym (c .before .operand .given .1) ∙ e) in
+    let g : length (c .before .before .before .before .before .before .before .before .before .before .before .before .before .args .part .now) < 18446744073709551616 = c .before .before .before .before .before .before .before .before .before .before .before .before .before .good .0 .0 in
+    (omega (arith, w .0, g), c .before .before .before .before .before .if1 .taken)
+
+read-expr-loop-less : (t : ℕ) → read-expr-lts.Need-loop-less (
+  expr-head-reads.Asked,
+  expr-head-reads.Learnt,
+  read-expr-below t,
+  read-expr.Post,
+  join-reads.Asked,
+  join-reads.Learnt,
+) (read-expr-at t) read-expr.Post read-expr-Inv-loop read-expr-μ-loop
+unfolding joined
+read-expr-loop-less t c =
+    let e : c .join .result .operands ≡ c .before .before .before .before .before .before .before .before .loop .whole .operands - 1 = ap (λ p. p .operands) (c .join .ensures) in
+    let h : 0 < c .before .before .before .before .before .before .before .before .loop .whole .operands = c .before .before .before .before .before .before .if1 .taken in
+    omega (arith, e, h)
+
+read-expr-loop-again : (t : ℕ) → read-expr-lts.Need-loop-again (
+  expr-head-reads.Asked,
+  expr-head-reads.Learnt,
+  read-expr-below t,
+  read-expr.Post,
+  join-reads.Asked,
+  join-reads.Learnt,
+) (read-expr-at t) read-expr.Post read-expr-Inv-loop read-expr-μ-loop
+read-expr-loop-again t c =
+    let e = c .before .before .before .before .read-expr .ensures ∙ ap (λ bs. shape (c .before .before .before .before .before .before .before .before .before .before .before .before .before .before .args .bad) (c .before .before .before .before .before .before .before .before .before .before .before .before .before .before .args .limit) (c .before .before .before .before .before .before .before .before .before .before .before .before .before .before .args .at + c .before .before .before .before .before .before .before .before .loop .whole .used) (readExpr (c .before .before .before .before .before .before .before .before .before .before .before .before .before .before .args .depth - 1) (c .before .before .before .before .before .before .before .before .loop .whole .left) (c .before .before .before .before .before .before .before .before .before .before .before .before .before .before .args .at + c .before .before .before .before .before .before .before .before .loop .whole .used) bs)) (part-rest (c .before .before .before .before .before .before .before .before .before .before .before .before .before .before .args .part .now) (c .before .before .before .before .before .before .before .before .loop .whole .used)) in
+    subst (Going (c .before .before .before .before .before .before .before .before .before .before .before .before .before .before .args .bad) (c .before .before .before .before .before .before .before .before .before .before .before .before .before .before .args .limit) (c .before .before .before .before .before .before .before .before .before .before .before .before .before .before .args .depth) (c .before .before .before .before .before .before .before .before .before .before .before .before .before .before .args .left) (c .before .before .before .before .before .before .before .before .before .before .before .before .before .before .args .at) (c .before .before .before .before .before .before .before .before .before .before .before .before .before .before .args .part .now)) (sym (c .join .ensures)) ((with-operand (c .before .before .before .before .before .before .before .before .before .before .before .before .before .before .args .bad) (c .before .before .before .before .before .before .before .before .before .before .before .before .before .before .args .limit) (c .before .before .before .before .before .before .before .before .before .before .before .before .before .before .args .depth) (c .before .before .before .before .before .before .before .before .before .before .before .before .before .before .args .left) (c .before .before .before .before .before .before .before .before .before .before .before .before .before .before .args .at) (c .before .before .before .before .before .before .before .before .before .before .before .before .before .before .args .part .now) (c .before .before .before .before .before .before .before .before .loop .whole) (c .before .before .operand .given .0 .0) (c .before .before .before .before .before .before .before .before .loop .inv) (c .before .before .before .before .before .before .if1 .taken) (sym (c .before .before .operand .given .1) ∙ e)) .1)
+
+read-expr-returns-3 : (t : ℕ) → read-expr-lts.Need-returns-3 (
+  expr-head-reads.Asked,
+  expr-head-reads.Learnt,
+  read-expr-below t,
+  read-expr.Post,
+  join-reads.Asked,
+  join-reads.Learnt,
+) (read-expr-at t) read-expr.Post read-expr-Inv-loop read-expr-μ-loop
+read-expr-returns-3 t c = ended (c .before .before .before .before .before .before .before .before .args .bad) (c .before .before .before .before .before .before .before .before .args .limit) (c .before .before .before .before .before .before .before .before .args .depth) (c .before .before .before .before .before .before .before .before .args .left) (c .before .before .before .before .before .before .before .before .args .at) (c .before .before .before .before .before .before .before .before .args .part .now) (c .before .before .loop .whole) (c .before .before .loop .inv) (omega (arith, c .if1 .left))
+
+pub +read-expr-spec : {M : Type 1} → statement M
++read-expr-spec = close μ-read-expr λ t. read-expr-lts.spec (
+  expr-head-reads.Asked,
+  expr-head-reads.Learnt,
+  read-expr-below t,
+  read-expr.Post,
+  join-reads.Asked,
+  join-reads.Learnt,
+)
+    (read-expr-at t)
+    read-expr.Post
+    read-expr-Inv-loop
+    read-expr-μ-loop
+    (read-expr-expr-head-requires t)
+    (read-expr-enum-known-head t)
+    (read-expr-enum-told t)
+    (read-expr-returns t)
+    (read-expr-loop-holds t)
+    (read-expr-sub-read-expr t)
+    (read-expr-part-read-expr-start t)
+    (read-expr-part-read-expr-end t)
+    (read-expr-add-read-expr t)
+    (read-expr-sub-read-expr-2 t)
+    (read-expr-read-expr-requires t)
+    (read-expr-enum-known-operand t)
+    (read-expr-enum-told-2 t)
+    (read-expr-returns-2 t)
+    (read-expr-join-requires t)
+    (read-expr-loop-less t)
+    (read-expr-loop-again t)
+    (read-expr-returns-3 t)

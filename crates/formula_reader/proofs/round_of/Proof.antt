@@ -1,0 +1,82 @@
+-- `formula::round_of` meets its contract: what is left of the round, from the marks so far.
+use Rattle.formula_reader.proofs.CodeReach.{round-on, round-done, reach-on, reach-done, stored-none, stored-on, FreeBelow, below-none, below-on, below-all}
+use Rattle.formula_reader.specs.Reach.{markBy, roundFrom, reachFrom, reachOf, Stored, Free}
+use lib.ListN.{length, getD, set, List·getD-eq-default}
+use native.Mathlib.Omega.{arith}
+use Prim.Native.Nat.{_<_, _≤_, _+_, _*_, _-_}
+use mathlib.Core.Path.{_≡_, refl, sym, subst, _∙_, ap}
+use borrow.Author.Needs.{needs}
+use Rattle.formula_reader.proofs.round_of.Statement.{statement}
+use Rattle.formula_reader.proofs.round_of.Tie as tie
+use Rattle.formula_reader.proofs.round_of.Reads as reads
+use Rattle.formula_reader.proofs.round_of.Lts as lts
+use Rattle.formula_reader.proofs.mark_step.Reads as mark-step-reads
+
+abbrev Inv-loop : tie.InvT-loop
+Inv-loop v g count marks₀ i₀ marks i = (i ≤ g .count) × (roundFrom g v 0 (g .count) marks₀ ≡ roundFrom g v i (g .count - i) marks)
+
+abbrev μ-loop : tie.MeasureT-loop
+μ-loop v g count marks₀ i₀ marks i = g .count - i
+
+loop-holds : tie.Need-loop-holds Inv-loop μ-loop
+loop-holds c =
+    let e : c .args .t1 .count - 0 ≡ c .args .t1 .count = omega arith in
+    (omega arith, rw e)
+
+mul-mark-step : tie.Need-mul-mark-step Inv-loop μ-loop
+mul-mark-step c = search needs
+
+element-copy-out-mark-step : tie.Need-element-copy-out-mark-step Inv-loop μ-loop
+element-copy-out-mark-step c = search needs
+
+mul-mark-step-2 : tie.Need-mul-mark-step-2 Inv-loop μ-loop
+mul-mark-step-2 c = search needs
+
+element-copy-out-mark-step-2 : tie.Need-element-copy-out-mark-step-2 Inv-loop μ-loop
+element-copy-out-mark-step-2 c = search needs
+
+mul-mark-step-3 : tie.Need-mul-mark-step-3 Inv-loop μ-loop
+mul-mark-step-3 c = search needs
+
+add-mark-step : tie.Need-add-mark-step Inv-loop μ-loop
+add-mark-step c = search needs
+
+element-copy-out-mark-step-3 : tie.Need-element-copy-out-mark-step-3 Inv-loop μ-loop
+element-copy-out-mark-step-3 c = search needs
+
+mark-step-requires : tie.Need-mark-step-requires Inv-loop μ-loop
+mark-step-requires c κs = search needs
+
+add-i : tie.Need-add-i Inv-loop μ-loop
+add-i c = search needs
+
+loop-less : tie.Need-loop-less Inv-loop μ-loop
+loop-less c = search needs
+
+loop-again : tie.Need-loop-again Inv-loop μ-loop
+loop-again c =
+    let h : c .before .before .before .before .before .loop .i < c .before .before .before .before .before .before .args .t1 .count = c .before .before .before .before .loop-test .taken in
+    (omega (arith, h), c .before .before .before .before .before .loop .inv .1 ∙ (round-on (c .before .before .before .before .before .before .args .t1) (c .before .before .before .before .before .before .args .v) (c .before .before .before .before .before .loop .i) (c .before .before .before .before .before .loop .marks) h ∙ ap (roundFrom (c .before .before .before .before .before .before .args .t1) (c .before .before .before .before .before .before .args .v) (c .before .before .before .before .before .loop .i + 1) (c .before .before .before .before .before .before .args .t1 .count - (c .before .before .before .before .before .loop .i + 1))) (sym (c .mark-step .ensures))))
+
+returns : tie.Need-returns Inv-loop μ-loop
+returns c = sym (c .before .loop .inv .1 ∙ round-done (c .before .before .args .t1) (c .before .before .args .v) (c .before .loop .i) (c .before .loop .marks) (c .loop-test .left))
+
+pub round-of-spec : {M : Type 1} → statement M
+round-of-spec =
+    tie.close
+    (tie.spec
+    Inv-loop
+    μ-loop
+    loop-holds
+    mul-mark-step
+    element-copy-out-mark-step
+    mul-mark-step-2
+    element-copy-out-mark-step-2
+    mul-mark-step-3
+    add-mark-step
+    element-copy-out-mark-step-3
+    mark-step-requires
+    add-i
+    loop-less
+    loop-again
+    returns)

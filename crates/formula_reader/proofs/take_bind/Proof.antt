@@ -1,0 +1,45 @@
+-- `formula::take_bind` meets its contract: its operands.
+use Rattle.formula_reader.specs.Take.{operandsAt, stateAt, stepAt, tiedAt, testAt, testvAt, bindAt, guardAt, nextAt}
+use borrow.Author.Tests.{lt-ltb, le-ltb, le-leb, lt-leb, eq-eqb, ne-eqb}
+use borrow.Author.Needs.{needs}
+use Rattle.formula_reader.proofs.take_bind.Statement.{statement}
+use Rattle.formula_reader.proofs.take_bind.Tie as tie
+use Rattle.formula_reader.proofs.take_bind.Reads as reads
+use Rattle.formula_reader.proofs.take_bind.Lts as lts
+use Rattle.base.proofs.byte_at.Reads as byte-at-reads
+use Rattle.formula_reader.proofs.both.Reads as both-reads
+use Rattle.formula_reader.proofs.operands_at.Reads as operands-at-reads
+
+byte-at-requires : tie.Need-byte-at-requires
+byte-at-requires c κs = search needs
+
+cast-f : tie.Need-cast-f
+cast-f c = search needs
+
+byte-at-requires-2 : tie.Need-byte-at-requires-2
+byte-at-requires-2 c κs = search needs
+
+cast-v : tie.Need-cast-v
+cast-v c = search needs
+
+both-requires : tie.Need-both-requires
+both-requires c κs = search needs
+
+operands-at-requires : tie.Need-operands-at-requires
+operands-at-requires c κs = search needs
+
+returns : tie.Need-returns
+unfolding bindAt
+returns c = rw (← (c .before .before .before .byte-at .ensures .0), ← (c .before .before .byte-at2 .ensures .0), ← (c .before .both .ensures)) (c .operands-at .ensures)
+
+pub take-bind-spec : {M : Type 1} → statement M
+take-bind-spec =
+    tie.close
+    (tie.spec
+    byte-at-requires
+    cast-f
+    byte-at-requires-2
+    cast-v
+    both-requires
+    operands-at-requires
+    returns)

@@ -1,0 +1,49 @@
+-- What the reader of a formula answers.
+use Prim.Native.Nat.{ℕ}
+use mathlib.Core.Bool.{Bool, false, cond}
+use mathlib.Core.List.{List, [], _∷_, map}
+use lib.Dec.{ltb}
+use lib.ListN.{length, getD, replicate}
+use Rattle.base.specs.Lists.{pad}
+use Rattle.refusal.specs.declared.File.the-variants.{Formula as InFormula}
+use Rattle.refusal.specs.declared.Refusal.{Refusal}
+use Rattle.refusal.specs.declared.Refusal.the-variants.{CutShort, Value, DeadStart, Unbound as UnboundAt}
+use Rattle.formula_reader.specs.declared.Draft.{Draft}
+use Rattle.formula_reader.specs.declared.Found.{Found}
+use Rattle.formula_reader.specs.declared.Verdict.{Verdict}
+use Rattle.formula_reader.specs.declared.Verdict.the-variants.{Accepted, Refused}
+use Rattle.formula_reader.specs.declared.FormulaReading.{FormulaReading}
+use Rattle.formula.specs.Formula.{State, Formula}
+use Rattle.formula.specs.Encode.{kindByte}
+use Rattle.formula.specs.Lookup.{isTied, stepTable}
+use Rattle.formula.specs.Read.{Reading, accepted, refused}
+
+-- whether each of the 8 variables is tied
+unfoldable pub tiesOf : List ℕ → List Bool
+tiesOf ws = isTied 0 ws ∷ isTied 1 ws ∷ isTied 2 ws ∷ isTied 3 ws ∷ isTied 4 ws ∷ isTied 5 ws ∷ isTied 6 ws ∷ isTied 7 ws ∷ []
+
+-- the kinds of the states, 0 where there is none
+unfoldable pub kindsOf : List State → List ℕ
+kindsOf xs = pad 16 0 (map (λ (x : State). kindByte (x .kind)) xs)
+
+-- the verdict, and of an accepted formula its number of states, their kinds, where its steps begin, its tied variables
+unfoldable pub answerOf : Reading → FormulaReading
+answerOf (accepted f) = record { verdict = Accepted; states = length (f .states); kinds = kindsOf (f .states); table = stepTable f; ties = tiesOf (f .tied) }
+answerOf (refused r) = record { verdict = Refused r; states = 0; kinds = replicate 16 0; table = replicate 128 0; ties = replicate 8 false }
+
+-- the answer of an accepted formula, from what was gathered of it
+abbrev pub acceptedWith : Draft → FormulaReading
+acceptedWith d = record { verdict = Accepted; states = d .summary .states; kinds = d .outline .kinds; table = d .outline .table; ties = d .outline .ties }
+
+-- after END: an absent state, a dead start, an unbound variable, in this order
+unfoldable pub judgedWith : Draft → Found → FormulaReading
+judgedWith d f =
+    cond (f .absent .found) (answerOf (refused (Value InFormula (f .absent .at))))
+    (cond (ltb 1 (getD (d .outline .kinds) 0 0)) (answerOf (refused DeadStart))
+    (cond (f .unbound .found) (answerOf (refused (UnboundAt (f .unbound .at))))
+    (acceptedWith d)))
+
+-- the refusal in a verdict
+abbrev pub refusalIn : Verdict → Refusal
+refusalIn (Refused r) = r
+refusalIn Accepted = CutShort InFormula 0
