@@ -1,0 +1,58 @@
+-- `formula_cases::show_cuts` is safe and ends: the loop counts.
+use Prim.Native.Nat.{_≤_, _-_}
+use mathlib.Core.Path.{_≡_}
+use lib.ListN.{length}
+use borrow.Author.Needs.{needs}
+use Rattle.formula_cases.proofs.show_cuts.Statement.{statement}
+use Rattle.formula_cases.proofs.show_cuts.Tie as tie
+use Rattle.formula_cases.proofs.show_cuts.Reads as reads
+use Rattle.formula_cases.proofs.show_cuts.Lts as lts
+use Rattle.formula_cases.proofs.show_part.Reads as show-part-reads
+
+abbrev Inv-loop : tie.InvT-loop
+Inv-loop n f k₀ k = (k ≤ n) × (length f ≡ 32)
+
+abbrev μ-loop : tie.MeasureT-loop
+μ-loop n f k₀ k = n - k
+
+-- src/main.rt:51:5
+loop-holds : tie.Need-loop-holds Inv-loop μ-loop
+loop-holds c = search needs
+
+-- src/main.rt:52:19
+slice-aggregate-show-part : tie.Need-slice-aggregate-show-part Inv-loop μ-loop
+slice-aggregate-show-part c = search needs
+
+-- src/main.rt:52:9
+show-part-requires : tie.Need-show-part-requires Inv-loop μ-loop
+show-part-requires c κs = search needs
+
+-- src/main.rt:53:9
+add-k : tie.Need-add-k Inv-loop μ-loop
+add-k c = search needs
+
+-- src/main.rt:51:5
+loop-less : tie.Need-loop-less Inv-loop μ-loop
+loop-less c = search needs
+
+-- src/main.rt:51:5
+loop-again : tie.Need-loop-again Inv-loop μ-loop
+loop-again c = search needs
+
+-- src/main.rt:49:1
+returns : tie.Need-returns Inv-loop μ-loop
+returns c = search needs
+
+pub show-cuts-spec : {M : Type 1} → statement M
+show-cuts-spec =
+    tie.close
+    (tie.spec
+    Inv-loop
+    μ-loop
+    loop-holds
+    slice-aggregate-show-part
+    show-part-requires
+    add-k
+    loop-less
+    loop-again
+    returns)

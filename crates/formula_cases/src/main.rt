@@ -1,0 +1,151 @@
+// Runs the formula reader on the bench's formulas F and G, cut at every byte and with every byte set to 0, 1, 2, 17 and 255, against
+// a log of two fields, and prints each answer: the file, number and place of a refusal, or an accepted formula's number of states.
+use formula_reader::Verdict;
+use libc::STDOUT_FILENO;
+
+// A space and a number.
+fn put(n: usize) {
+    io::write_all(STDOUT_FILENO, b" ");
+    io::print_decimal(STDOUT_FILENO, n as u64);
+}
+
+// What the reader answers, on one line.
+fn show(f: &[u8]) {
+    let r = formula_reader::read_formula(f, 2);
+    let verdict = r.verdict;
+    match verdict {
+        Verdict::Accepted => {
+            io::write_all(STDOUT_FILENO, b"accepted");
+            put(r.states);
+        }
+        Verdict::Refused(why) => {
+            let t = refusal::report_of(why);
+            io::write_all(STDOUT_FILENO, b"refused");
+            put(t.file);
+            put(t.number);
+            put(t.place);
+        }
+    }
+    io::write_all(STDOUT_FILENO, b"\n");
+}
+
+// What the reader answers to the first n bytes.
+fn show_part(f: &[u8], n: usize) {
+    if n <= f.len() {
+        show(&f[..n]);
+    }
+}
+
+// A formula of at most 32 bytes, n of them, with one byte set.
+fn show_set(f: [u8; 32], n: usize, at: usize, b: u8) {
+    if at < 32 {
+        let mut d = f;
+        d[at] = b;
+        show_part(&d, n);
+    }
+}
+
+// The n shortest front parts of a formula.
+fn show_cuts(f: [u8; 32], n: usize) {
+    let mut k: usize = 0;
+    while k < n {
+        show_part(&f, k);
+        k += 1;
+    }
+}
+
+// A formula with every byte set to each of five values.
+fn show_sets(f: [u8; 32], n: usize) {
+    let mut at: usize = 0;
+    while at < n {
+        show_set(f, n, at, 0);
+        show_set(f, n, at, 1);
+        show_set(f, n, at, 2);
+        show_set(f, n, at, 17);
+        show_set(f, n, at, 255);
+        at += 1;
+    }
+}
+
+// F: trip, then open; 28 bytes.
+fn trip_then_open() -> [u8; 32] {
+    [
+        16,
+        0,
+        17,
+        1,
+        18,
+        1,
+        0,
+        0,
+        0,
+        0,
+        1,
+        20,
+        0,
+        0,
+        16,
+        0,
+        17,
+        2,
+        18,
+        1,
+        0,
+        0,
+        0,
+        0,
+        2,
+        16,
+        2,
+        0,
+        0,
+        0,
+        0,
+        0,
+    ]
+}
+
+// G: open, then trip at the same time; 32 bytes.
+fn open_then_trip() -> [u8; 32] {
+    [
+        16,
+        0,
+        17,
+        1,
+        18,
+        1,
+        0,
+        0,
+        0,
+        0,
+        2,
+        20,
+        0,
+        0,
+        16,
+        0,
+        17,
+        2,
+        19,
+        0,
+        0,
+        0,
+        18,
+        1,
+        0,
+        0,
+        0,
+        0,
+        1,
+        16,
+        2,
+        0,
+    ]
+}
+
+fn main() {
+    show_cuts(trip_then_open(), 29);
+    show_sets(trip_then_open(), 28);
+    show_cuts(open_then_trip(), 33);
+    show_sets(open_then_trip(), 32);
+}
