@@ -1,0 +1,212 @@
+-- Firing over the formula's bytes: what each function of the code computes, and that on a step's bytes it is the definition's firing.
+use Prim.Native.Nat.{ℕ, zero, suc, _+_, _<_, _≤_, min}
+use mathlib.Core.Path.{_≡_, refl, ap, sym, _∙_}
+use mathlib.Core.Bool.{Bool, true, false, cond, _&&_}
+use mathlib.Core.List.{List, [], _∷_, _++_, append-assoc, append-nil, flatMap, map}
+use mathlib.Core.Option.{Option, none, some}
+use native.Mathlib.Omega.{arith}
+use borrow.Author.Tests.{lt-ltb, le-leb, lt-leb, ne-eqb, ltb-true, ltb-false}
+use lib.ListN.{length, getD, drop, set, replicate, List·getD-eq-default, length-drop, length-append}
+use lib.Seq.{set-out}
+use lib.Dec.{ltb}
+use Rattle.base.specs.Lists.{All}
+use Rattle.event_log.specs.Log.{Kind}
+use Rattle.formula.specs.Formula.{Expr, Clause, Step}
+use Rattle.formula.specs.Encode.{CLAUSE, encodeExpr, encodeClause, encodeCommand, guardCommands, stepCommands}
+use Rattle.interpreter.specs.declared.Configuration.{Configuration}
+use Rattle.interpreter.specs.declared.Evaluated.{Evaluated}
+use Rattle.interpreter.specs.declared.Walked.{Walked}
+use Rattle.formula.specs.Correct.{Exists, Variable, GuardFits, StepFits}
+use Rattle.machine.specs.Configuration.{addOne, total, Valid}
+use Rattle.machine.specs.Guard.{truth, guardHolds}
+use Rattle.machine.specs.Firing.{bindAll, leave, fires, fire}
+use Rattle.machine.specs.Expiry.{rises}
+use Rattle.interpreter.specs.Bytes.{evaluated, walked, raised, guardAt, leaving, fired, begun, isClause, configOf}
+use Rattle.machine.proofs.Configurations.{counter-le-total, add-one-set}
+use Rattle.machine.proofs.Walk.{fires-walk}
+use Rattle.interpreter.proofs.CodeGuard.{rest, rest-drop, evaluate-encode}
+use Rattle.interpreter.proofs.CodeStep.{byte-from, first-byte, drop-more, walkOf, walk-encode, walk-ends, clauses-length, Agrees, Along, along}
+
+pub raised-out : (counters : List ℕ) (s : ℕ) → length counters ≡ 16 → 16 ≤ s → counters ≡ raised counters s
+unfolding raised
+raised-out counters s h k = let q : length counters ≤ s = omega arith in sym (set-out counters s _ q)
+
+pub raised-in : (counters : List ℕ) (s n : ℕ) → n ≡ min (getD counters s 0 + 1) 4294967295 → set counters s n ≡ raised counters s
+unfolding raised
+raised-in counters s n e = rw e
+
+-- there is a byte where one is not 0
+pub byte-inside : (f : List ℕ) (at c : ℕ) → c ≡ getD f at 0 → 0 < c → at < length f
+byte-inside f at c e h = go (ltb at (length f)) refl
+  where
+    go : (b : Bool) → ltb at (length f) ≡ b → at < length f
+    go true q = ltb-true at (length f) q
+    go false q = let z : getD f at 0 ≡ 0 = List·getD-eq-default f 0 (ltb-false at (length f) q) in absurd (omega arith)
+
+pub guard-read : (f : List ℕ) (at c : ℕ) (values counters : List ℕ) (e : Evaluated) → c ≡ getD f at 0 → c ≡ 0x15 → e ≡ evaluated 8 values counters (rest f (at + 1)) → truth (e .value) ≡ guardAt f at values counters
+unfolding guardAt
+guard-read f at c values counters e p k q = rw (← p, k, q, rest-drop f (at + 1))
+
+pub guard-none : (f : List ℕ) (at c : ℕ) (values counters : List ℕ) → c ≡ getD f at 0 → (c ≡ 0x15 → ⊥) → true ≡ guardAt f at values counters
+unfolding guardAt
+guard-none f at c values counters p k = rw (← p, ne-eqb c 0x15 k)
+
+-- a test that is only made where the first one holds
+pub and-first : (p g b : Bool) → p ≡ true → b ≡ g → b ≡ (p && g)
+and-first p g b h e = rw h e
+
+pub and-no : (p g : Bool) → p ≡ false → false ≡ (p && g)
+and-no p g h = rw h
+
+pub fired-out : (f : List ℕ) (at : ℕ) (c : Configuration) (event : List ℕ) → length f ≤ at → record { fires = false; config = c } ≡ fired f at c event
+unfolding fired
+fired-out f at c event h = rw (le-leb (length f) at h)
+
+pub fired-in : (f : List ℕ) (at : ℕ) (c : Configuration) (event : List ℕ) (w : Walked) (counters : List ℕ) (t : ℕ) (b : Bool) → at < length f
+    → w ≡ walked f at c (replicate 8 false) event → counters ≡ raised (c .counters) (c .state) → t ≡ getD f (at + 1) 0 → b ≡ (w .passes && guardAt f (w .at) (w .values) counters)
+    → record { fires = b; config = leaving t w counters } ≡ fired f at c event
+unfolding fired
+fired-in f at c event w counters t b h e₁ e₂ e₃ e₄ = rw (lt-leb (length f) at h, e₄, e₃, e₂, e₁)
+
+-- a step's bytes, and those of its guard
+abbrev pub stepBytes : Step → List ℕ
+stepBytes s = flatMap encodeCommand (stepCommands s)
+
+abbrev pub guardBytes : Option Expr → List ℕ
+guardBytes none = []
+guardBytes (some g) = 0x15 ∷ encodeExpr g
+
+clause-bytes : (ks : List Clause) (g : Option Expr) → flatMap encodeCommand (map CLAUSE ks ++ guardCommands g) ≡ flatMap encodeClause ks ++ guardBytes g
+unfolding flatMap guardCommands encodeCommand
+clause-bytes [] none = refl
+clause-bytes [] (some g) = append-nil (0x15 ∷ encodeExpr g)
+clause-bytes (k ∷ ks) g = rw (clause-bytes ks g, append-assoc (encodeClause k) (flatMap encodeClause ks) (guardBytes g))
+
+-- The bytes at an offset are those of a correct step, and behind them stands neither a clause's command nor a GUARD: "10 STATE, 11 STEP, 00 END".
+pub record StepAt (fields states : ℕ) (f : List ℕ) (at : ℕ) (s : Step) : Type 0 where
+  pub after : List ℕ
+  pub bytes : drop at f ≡ stepBytes s ++ after
+  pub ends : getD after 0 0 < 0x12
+  pub exist : All (Exists fields states) (stepCommands s)
+  pub fits : StepFits s
+
+-- The configuration is one that a run reaches: "1 to 16 states", and no counter is full.
+pub record Ready (c : Configuration) : Type 0 where
+  pub held-8 : length (c .held) ≡ 8
+  pub values-8 : length (c .values) ≡ 8
+  pub counters-16 : length (c .counters) ≡ 16
+  pub declared : c .state < 16
+  pub below : getD (c .counters) (c .state) 0 < 4294967295
+
+-- a valid configuration with few steps taken is ready
+pub ready : (states : ℕ) (c : Configuration) → Valid states (configOf c) → states ≤ 16 → total (c .counters) < 4294967295 → Ready c
+unfolding configOf
+ready states c v h k = record { held-8 = v .held-8; values-8 = v .values-8; counters-16 = v .counters-16; declared = omega (arith, v .declared); below = omega (arith, counter-le-total (c .counters) (c .state)) }
+
+pub raised-one : (c : Configuration) → Ready c → raised (c .counters) (c .state) ≡ addOne (c .counters) (c .state)
+unfolding raised
+raised-one c r =
+    let e : min (getD (c .counters) (c .state) 0 + 1) 4294967295 ≡ getD (c .counters) (c .state) 0 + 1 = omega (arith, r .below) in
+    rw (e, add-one-set (c .counters) (c .state) (omega (arith, r .counters-16, r .declared)))
+
+clauses-exist : (m n : ℕ) (ks : List Clause) (g : Option Expr) → All (Exists m n) (map CLAUSE ks ++ guardCommands g) → All (λ (k : Clause). Exists m n (CLAUSE k)) ks
+clauses-exist m n [] g h = tt
+clauses-exist m n (k ∷ ks) g h = (h .0, clauses-exist m n ks g (h .1))
+
+pub guard-exists : (m n : ℕ) (ks : List Clause) (g : Option Expr) → All (Exists m n) (map CLAUSE ks ++ guardCommands g) → All (Exists m n) (guardCommands g)
+guard-exists m n [] g h = h
+guard-exists m n (k ∷ ks) g h = guard-exists m n ks g (h .1)
+
+-- what the bytes of a step say of its parts
+module _ (fields states : ℕ) (f : List ℕ) (at : ℕ) (s : Step) (h : StepAt fields states f at s) where
+  pub inside : at < length f
+  unfolding stepCommands encodeCommand flatMap
+  inside = byte-inside f at 0x11 (sym (first-byte f _ at (h .bytes))) (omega arith)
+
+  target-byte : getD f (at + 1) 0 ≡ s .target
+  unfolding stepCommands encodeCommand flatMap
+  target-byte = byte-from f _ at 1 (h .bytes)
+
+  pub behind-step : drop (at + 2) f ≡ flatMap encodeClause (s .clauses) ++ (guardBytes (s .guard) ++ h .after)
+  unfolding stepCommands encodeCommand flatMap
+  behind-step =
+      drop-more f (0x11 ∷ s .target ∷ []) (flatMap encodeCommand (map CLAUSE (s .clauses) ++ guardCommands (s .guard)) ++ h .after) at (h .bytes)
+      ∙ ap (λ (x : List ℕ). x ++ h .after) (clause-bytes (s .clauses) (s .guard)) ∙ append-assoc (flatMap encodeClause (s .clauses)) (guardBytes (s .guard)) (h .after)
+
+  -- no clause's command stands behind the clauses
+  clauses-end : (g : Option Expr) → isClause (getD (guardBytes g ++ h .after) 0 0) ≡ false
+  unfolding isClause
+  clauses-end none = rw (lt-ltb (getD (h .after) 0 0) 0x12 (h .ends))
+  clauses-end (some g) = refl
+
+  clauses-fit : length (s .clauses) ≤ suc (length f)
+  clauses-fit =
+      let e = ap length behind-step in
+      omega (arith, clauses-length (s .clauses), length-drop (at + 2) f, length-append (flatMap encodeClause (s .clauses)) (guardBytes (s .guard) ++ h .after))
+
+  pub parts-exist : All (Exists fields states) (map CLAUSE (s .clauses) ++ guardCommands (s .guard))
+  unfolding stepCommands
+  parts-exist = h .exist .1
+
+  -- the walk over the step's bytes is the walk over its clauses
+  pub walked-encode : (c : Configuration) (rising : List Bool) (event : List ℕ) → walked f at c rising event ≡ walkOf f (c .values) rising event (begun at c) (s .clauses)
+  unfolding walked begun
+  walked-encode c rising event = walk-encode f (c .values) rising event fields states (suc (length f)) (begun at c) (s .clauses) (guardBytes (s .guard) ++ h .after) behind-step (clauses-end (s .guard)) (clauses-exist fields states (s .clauses) (s .guard) parts-exist) clauses-fit
+
+  -- and it ends where the guard begins
+  pub walked-ends : (c : Configuration) (rising : List Bool) (event : List ℕ) → drop ((walked f at c rising event) .at) f ≡ guardBytes (s .guard) ++ h .after
+  unfolding begun
+  walked-ends c rising event = ap (λ (w : Walked). drop (w .at) f) (walked-encode c rising event) ∙ walk-ends f (c .values) rising event (begun at c) (s .clauses) (guardBytes (s .guard) ++ h .after) behind-step
+
+  -- the guard that begins at an offset has the value of the step's guard
+  pub guard-encode : (g : Option Expr) (p : ℕ) (values counters : List ℕ) → drop p f ≡ guardBytes g ++ h .after → All (Exists fields states) (guardCommands g) → GuardFits g → guardAt f p values counters ≡ guardHolds values counters g
+  unfolding guardAt guardCommands
+  guard-encode none p values counters e x y =
+      let b : getD f p 0 ≡ getD (h .after) 0 0 = first-byte f (h .after) p e in
+      rw (b, ne-eqb (getD (h .after) 0 0) 0x15 (λ q. omega (arith, h .ends)))
+  guard-encode (some g) p values counters e x y =
+      let b : getD f p 0 ≡ 0x15 = first-byte f _ p e in
+      let d : drop (p + 1) f ≡ encodeExpr g ++ h .after = drop-more f (0x15 ∷ []) (encodeExpr g ++ h .after) p e in
+      let v = evaluate-encode Variable (λ i. i < states) values counters g 8 (h .after) (x .0) (y .1) in
+      rw (b, d, v)
+
+  -- the walk over the step's bytes binds, passes and is due as the definition says
+  pub walked-along : (kinds : List Kind) (rising : List Bool) → ((g : ℕ) → getD rising g false ≡ rises kinds g) → (c : Configuration) (event : List ℕ)
+      → Along kinds (configOf c) (configOf c) event (s .clauses) (begun at c) (walked f at c rising event)
+  unfolding configOf begun
+  walked-along kinds rising kept c event = rw (walked-encode c rising event) (along f kinds rising kept (configOf c) event (s .clauses) (configOf c) (begun at c) (record { held = refl; values = refl }))
+
+  -- the guard behind the walk, with what it has bound and the counters raised, is the step's guard in the configuration that it leaves
+  pub guard-left : (c : Configuration) (rising : List Bool) (event : List ℕ) → Ready c → Agrees (walked f at c rising event) (bindAll (configOf c) event (s .clauses))
+      → guardAt f ((walked f at c rising event) .at) ((walked f at c rising event) .values) (raised (c .counters) (c .state)) ≡ guardHolds ((bindAll (configOf c) event (s .clauses)) .values) (addOne (c .counters) (c .state)) (s .guard)
+  guard-left c rising event r a =
+      let g = guard-encode (s .guard) ((walked f at c rising event) .at) ((walked f at c rising event) .values) (raised (c .counters) (c .state)) (walked-ends c rising event) (guard-exists fields states (s .clauses) (s .guard) parts-exist) (h .fits .guard) in
+      rw (g, a .values, raised-one c r)
+
+-- A step's bytes fire exactly where the step does, and leave the configuration that it leaves.
+pub record FiresAs (f : List ℕ) (at : ℕ) (c : Configuration) (s : Step) (event : List ℕ) : Type 0 where
+  pub fires-as : (fired f at c event) .fires ≡ fires (configOf c) s event
+  pub leaves-as : configOf ((fired f at c event) .config) ≡ leave (configOf c) s event
+
+-- no field rises, as marks and as kinds
+none-rises : (g n : ℕ) → getD (replicate n false) g false ≡ false
+none-rises g zero = refl
+none-rises zero (suc n) = refl
+none-rises (suc g) (suc n) = none-rises g n
+
+pub fire-encode : (fields states : ℕ) (f : List ℕ) (at : ℕ) (c : Configuration) (s : Step) (event : List ℕ) → StepAt fields states f at s → Ready c → FiresAs f at c s event
+unfolding fired configOf leave begun
+fire-encode fields states f at c s event h r =
+    let w = walked f at c (replicate 8 false) event in
+    let a : Along [] (configOf c) (configOf c) event (s .clauses) (begun at c) w = walked-along fields states f at s h [] (replicate 8 false) (λ g. none-rises g 8) c event in
+    let g = guard-left fields states f at s h c (replicate 8 false) event r (a .agrees) in
+    let i = lt-leb (length f) at (inside fields states f at s h) in
+    let t = target-byte fields states f at s h in
+    let p = fires-walk (configOf c) s event (record { held-8 = r .held-8; values-8 = r .values-8 }) in
+    record { fires-as = rw (i, g, a .passing, p); leaves-as = rw (i, t, a .agrees .held, a .agrees .values, raised-one c r) }
+
+-- The same as an answer: what the step leaves, if it fires.
+pub fire-answer : (fields states : ℕ) (f : List ℕ) (at : ℕ) (c : Configuration) (s : Step) (event : List ℕ) → StepAt fields states f at s → Ready c
+    → fire (configOf c) s event ≡ cond ((fired f at c event) .fires) (some (configOf ((fired f at c event) .config))) none
+unfolding fire
+fire-answer fields states f at c s event h r = let e = fire-encode fields states f at c s event h r in rw (e .fires-as, e .leaves-as)

@@ -1,0 +1,95 @@
+-- `machine::clause` meets its contract: by the command byte, its operands read where they stand.
+use denote.Ref.{now}
+use Rattle.interpreter.proofs.CodeWalk.{clause-test, clause-testv, clause-bind}
+use borrow.Author.Needs.{needs}
+use Rattle.interpreter.proofs.clauses.clause.Statement.{statement}
+use Rattle.interpreter.proofs.clauses.clause.Tie as tie
+
+add-byte-at : tie.Need-add-byte-at
+add-byte-at c = search needs
+
+byte-at-requires : tie.Need-byte-at-requires
+byte-at-requires c κs = search needs
+
+value-of-requires : tie.Need-value-of-requires
+value-of-requires c κs = search needs
+
+mark-of-requires : tie.Need-mark-of-requires
+mark-of-requires c κs = search needs
+
+add-byte-at-2 : tie.Need-add-byte-at-2
+add-byte-at-2 c = search needs
+
+byte-at-requires-2 : tie.Need-byte-at-requires-2
+byte-at-requires-2 c κs = search needs
+
+byte-at-requires-3 : tie.Need-byte-at-requires-3
+byte-at-requires-3 c κs = search needs
+
+add-test : tie.Need-add-test
+add-test c = search needs
+
+add-value-at : tie.Need-add-value-at
+add-value-at c = search needs
+
+value-at-requires : tie.Need-value-at-requires
+value-at-requires c κs = search needs
+
+test-requires : tie.Need-test-requires
+test-requires c κs = search needs
+
+add-test-2 : tie.Need-add-test-2
+add-test-2 c = search needs
+
+add-byte-at-3 : tie.Need-add-byte-at-3
+add-byte-at-3 c = search needs
+
+byte-at-requires-4 : tie.Need-byte-at-requires-4
+byte-at-requires-4 c κs = search needs
+
+value-of-requires-2 : tie.Need-value-of-requires-2
+value-of-requires-2 c κs = search needs
+
+test-requires-2 : tie.Need-test-requires-2
+test-requires-2 c κs = search needs
+
+add-bind : tie.Need-add-bind
+add-bind c = search needs
+
+bind-requires : tie.Need-bind-requires
+bind-requires c κs = search needs
+
+returns : tie.Need-returns
+returns c = clause-test (now (c .before .before .before .before .before .before .before .before .before .args .f)) (c .before .before .before .before .before .before .before .before .before .args .prior) (c .before .before .before .before .before .before .before .before .before .args .rises) (c .before .before .before .before .before .before .before .before .before .args .event) (c .before .before .before .before .before .before .before .before .before .args .w) (c .before .before .before .before .before .before .before .byte-at .result) (c .before .before .before .before .before .before .value-of .result) (c .before .before .before .before .byte-at2 .result) (c .before .before .before .byte-at3 .result) (c .before .before .before .before .before .mark-of .result) (c .before .before .before .before .before .before .before .byte-at .ensures .0) (c .before .before .before .before .before .before .value-of .ensures) (c .before .before .before .before .before .mark-of .ensures) (c .before .before .before .before .byte-at2 .ensures .0) (c .before .before .before .byte-at3 .ensures .0) (c .before .value-at .result) _ (c .before .before .match .keys1) (c .before .value-at .ensures) (c .test .ensures)
+
+returns-2 : tie.Need-returns-2
+returns-2 c = clause-testv (now (c .before .before .before .before .before .before .before .before .before .before .args .f)) (c .before .before .before .before .before .before .before .before .before .before .args .prior) (c .before .before .before .before .before .before .before .before .before .before .args .rises) (c .before .before .before .before .before .before .before .before .before .before .args .event) (c .before .before .before .before .before .before .before .before .before .before .args .w) (c .before .before .before .before .before .before .before .before .byte-at .result) (c .before .before .before .before .before .before .before .value-of .result) (c .before .before .before .before .before .byte-at2 .result) (c .before .before .before .before .byte-at3 .result) (c .before .before .before .before .before .before .mark-of .result) (c .before .before .before .before .before .before .before .before .byte-at .ensures .0) (c .before .before .before .before .before .before .before .value-of .ensures) (c .before .before .before .before .before .before .mark-of .ensures) (c .before .before .before .before .before .byte-at2 .ensures .0) (c .before .before .before .before .byte-at3 .ensures .0) (c .before .before .byte-at4 .result) (c .before .value-of2 .result) _ (c .before .before .before .match .keys2) (c .before .before .byte-at4 .ensures .0) (c .before .value-of2 .ensures) (c .test2 .ensures)
+
+returns-3 : tie.Need-returns-3
+returns-3 c = clause-bind (now (c .before .before .before .before .before .before .before .before .args .f)) (c .before .before .before .before .before .before .before .before .args .prior) (c .before .before .before .before .before .before .before .before .args .rises) (c .before .before .before .before .before .before .before .before .args .event) (c .before .before .before .before .before .before .before .before .args .w) (c .before .before .before .before .before .before .byte-at .result) (c .before .before .before .before .before .value-of .result) (c .before .before .before .byte-at2 .result) (c .before .before .byte-at3 .result) (c .before .before .before .before .mark-of .result) (c .before .before .before .before .before .before .byte-at .ensures .0) (c .before .before .before .before .before .value-of .ensures) (c .before .before .before .before .mark-of .ensures) (c .before .before .before .byte-at2 .ensures .0) (c .before .before .byte-at3 .ensures .0) _ (c .before .match .rest .0 .1) (c .before .match .rest .1) (c .bind .ensures)
+
+pub clause-spec : {M : Type 1} → statement M
+clause-spec =
+    tie.close
+    (tie.spec
+    add-byte-at
+    byte-at-requires
+    value-of-requires
+    mark-of-requires
+    add-byte-at-2
+    byte-at-requires-2
+    byte-at-requires-3
+    add-test
+    add-value-at
+    value-at-requires
+    test-requires
+    add-test-2
+    add-byte-at-3
+    byte-at-requires-4
+    value-of-requires-2
+    test-requires-2
+    add-bind
+    bind-requires
+    returns
+    returns-2
+    returns-3)

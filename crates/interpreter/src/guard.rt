@@ -1,0 +1,155 @@
+// The value of a guard, by recursion over its bytes.
+use crate::Evaluated;
+ghost use mathlib.Core.Path.{_≡_};
+ghost use mathlib.Core.Bool.{Bool};
+ghost use Prim.Native.Nat.{_-_, _+_, min};
+ghost use lib.ListN.{getD, length};
+ghost use Rattle.machine.specs.Guard.{bit};
+ghost use Rattle.interpreter.specs.Bytes.{operandsOf, applied, leafValue, leafWidth, leafUsed, evaluated};
+
+// "LESS to OR give 0 or 1".
+fn bit_of(test: bool) -> u32
+    ensures { λ r. ⌜ r ≡ bit test ⌝ }
+{
+    if test { 1 } else { 0 }
+}
+
+// "ADD stops at 4294967295".
+pub fn sum(a: u32, b: u32) -> u32
+    ensures { λ r. ⌜ r ≡ min (a + b) 4294967295 ⌝ }
+{
+    if b <= 4294967295 - a {
+        a + b
+    } else {
+        4294967295
+    }
+}
+
+// "SUB at 0".
+fn difference(a: u32, b: u32) -> u32
+    ensures { λ r. ⌜ r ≡ a - b ⌝ }
+{
+    if b <= a { a - b } else { 0 }
+}
+
+// The number of operands of an expression command, 0 for any other byte.
+pub fn operand_count(command: u32) -> usize
+    ensures { λ r. ⌜ r ≡ operandsOf command ⌝ }
+{
+    match command {
+        0x28 => 1,
+        0x2B => 3,
+        0x23..=0x2A => 2,
+        _ => 0,
+    }
+}
+
+// What a command makes of its operands' values.
+fn apply(command: u32, a: u32, b: u32, d: u32) -> u32
+    ensures { λ r. ⌜ r ≡ applied command a b d ⌝ }
+{
+    match command {
+        0x23 => sum(a, b),
+        0x24 => difference(a, b),
+        0x25 => bit_of(a < b),
+        0x26 => bit_of(a <= b),
+        0x27 => bit_of(a == b),
+        0x28 => bit_of(!(0 < a)),
+        0x29 => { if 0 < a { bit_of(0 < b) } else { 0 } }
+        0x2A => { if 0 < a { 1 } else { bit_of(0 < b) } }
+        _ => { if 0 < a { b } else { d } }
+    }
+}
+
+// A variable's value, 0 where there is no such variable.
+pub fn value_of(values: [u32; 8], v: u32) -> u32
+    ensures { λ r. ⌜ r ≡ getD values v 0 ⌝ }
+{
+    let i = v as usize;
+    if i < 8 { values[i] } else { 0 }
+}
+
+// A state's counter, 0 where there is no such state.
+fn counter_of(counters: [u32; 16], s: u32) -> u32
+    ensures { λ r. ⌜ r ≡ getD counters s 0 ⌝ }
+{
+    let i = s as usize;
+    if i < 16 { counters[i] } else { 0 }
+}
+
+// The value of a command without operands.
+fn leaf_value(part: &[u8], values: [u32; 8], counters: [u32; 16]) -> u32
+    ensures { λ r. ⌜ r ≡ leafValue values counters (now (part .entry)) ⌝ }
+{
+    let command = base::byte_at(part, 0);
+    match command {
+        0x20 => base::value_at(part, 1),
+        0x21 => value_of(values, base::byte_at(part, 1)),
+        0x22 => counter_of(counters, base::byte_at(part, 1)),
+        _ => 0,
+    }
+}
+
+// The width of a command without operands, 0 for any other byte.
+fn leaf_width(command: u32) -> usize
+    ensures { λ r. ⌜ r ≡ leafWidth command ⌝ }
+{
+    match command {
+        0x20 => 5,
+        0x21 => 2,
+        0x22 => 2,
+        _ => 0,
+    }
+}
+
+// The bytes of the command without operands at the front, as far as there are any.
+pub fn leaf_used(part: &[u8]) -> usize
+    ensures { λ r. ⌜ r ≡ leafUsed (now (part .entry)) ⌝ }
+{
+    let width = leaf_width(base::byte_at(part, 0));
+    if width <= part.len() {
+        width
+    } else {
+        part.len()
+    }
+}
+
+// The value of the expression at the front, and the bytes that it takes; at most so many commands nested.
+pub fn evaluate(part: &[u8], values: [u32; 8], counters: [u32; 16], depth: usize) -> Evaluated
+    ensures { λ r. ⌜ r ≡ evaluated depth values counters (now (part .entry)) ⌝ }
+{
+    if depth == 0 {
+        return Evaluated { value: 0, used: 0 };
+    }
+    let command = base::byte_at(part, 0);
+    let operands = operand_count(command);
+    if operands == 0 {
+        let value = leaf_value(part, values, counters);
+        return Evaluated {
+            value,
+            used: leaf_used(part),
+        };
+    }
+    let inner = depth - 1;
+    let a = evaluate(&part[1..], values, counters, inner);
+    let second = 1 + a.used;
+    if operands == 1 {
+        return Evaluated {
+            value: apply(command, a.value, 0, 0),
+            used: second,
+        };
+    }
+    let b = evaluate(&part[second..], values, counters, inner);
+    let third = second + b.used;
+    if operands == 2 {
+        return Evaluated {
+            value: apply(command, a.value, b.value, 0),
+            used: third,
+        };
+    }
+    let d = evaluate(&part[third..], values, counters, inner);
+    Evaluated {
+        value: apply(command, a.value, b.value, d.value),
+        used: third + d.used,
+    }
+}
