@@ -1,0 +1,88 @@
+// Runs one step of the semantics on the bench's executed cases, and prints a line for each: whether a step with time less than 600
+// is expired (the paper's hopeless) after 599, 600 and 601, on a rising and on a plain field; and which events fire which steps of F.
+use interpreter::Configuration;
+use libc::STDOUT_FILENO;
+
+// A word and a line's end.
+fn say(yes: bool) {
+    if yes {
+        io::write_all(STDOUT_FILENO, b" yes\n");
+    } else {
+        io::write_all(STDOUT_FILENO, b" no\n");
+    }
+}
+
+fn start() -> Configuration {
+    Configuration {
+        state: 0,
+        held: [false; 8],
+        values: [0u32; 8],
+        counters: [0u32; 16],
+    }
+}
+
+// Whether the STEP at offset 2, time less than 600, is expired after a time.
+fn show_expired(rising: bool, time: u32) {
+    let f = [16u8, 0, 17, 1, 18, 0, 2, 0, 0, 2, 88, 16, 2, 0];
+    let rises = [rising, false, false, false, false, false, false, false];
+    io::write_all(STDOUT_FILENO, b"expired after ");
+    io::print_decimal(STDOUT_FILENO, time as u64);
+    say(interpreter::expiring::expired(&f, 2, start(), rises, [time, 0, 0, 0, 0, 0, 0, 0]));
+}
+
+// Whether the STEP at an offset of F fires on an event, from its state with variable 0 as held.
+fn show_fires(at: usize, state: u32, held: bool, time: u32, code: u32) {
+    let f = [
+        16u8,
+        0,
+        17,
+        1,
+        18,
+        1,
+        0,
+        0,
+        0,
+        0,
+        1,
+        20,
+        0,
+        0,
+        16,
+        0,
+        17,
+        2,
+        18,
+        1,
+        0,
+        0,
+        0,
+        0,
+        2,
+        16,
+        2,
+        0,
+    ];
+    let mut c = start();
+    c.state = state;
+    if held {
+        c.held[0] = true;
+        c.values[0] = 500;
+    }
+    io::write_all(STDOUT_FILENO, b"fires at ");
+    io::print_decimal(STDOUT_FILENO, at as u64);
+    let fired = interpreter::firing::fire(&f, at, c, [time, code, 0, 0, 0, 0, 0, 0]);
+    say(fired.fires);
+}
+
+fn main() {
+    show_expired(true, 599);
+    show_expired(true, 600);
+    show_expired(true, 601);
+    show_expired(false, 601);
+    show_fires(2, 0, false, 500, 1);
+    show_fires(2, 0, false, 500, 2);
+    show_fires(2, 0, true, 500, 1);
+    show_fires(2, 0, true, 501, 1);
+    show_fires(16, 1, true, 500, 1);
+    show_fires(16, 1, true, 500, 2);
+}
