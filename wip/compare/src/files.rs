@@ -1,0 +1,135 @@
+//! Files with fixed bytes: the bench's examples, one formula with every
+//! command, pairs at a limit, and rolled pairs that are accepted.
+
+use crate::checks::Files;
+use reference::compose::*;
+use reference::log::MOST_EVENTS;
+use reference::random;
+use reference::search::read_both;
+
+#[derive(Clone, Debug)]
+pub struct Pair {
+    pub log: Vec<u8>,
+    pub formula: Vec<u8>,
+}
+
+impl Pair {
+    pub fn files(&self) -> Files<'_> {
+        Files {
+            log: &self.log,
+            formula: &self.formula,
+        }
+    }
+}
+
+/// The bench's log with both its formulas, its events exchanged, and its log
+/// of three events, tied and not.
+pub fn examples() -> Vec<Pair> {
+    let log = "0101 0100 02000001F400000001 02000001F400000002 00";
+    let exchanged = "0101 0100 02000001F400000002 02000001F400000001 00";
+    let three = "0101 0100 020000000100000001 020000000200000001 020000000300000002 00";
+    let opens = "1000 1101 12010000000001 140000 1000 1102 12010000000002 1002 00";
+    let tied = "1600 1000 1101 12010000000001 140000 1000 1102 12010000000002 1002 00";
+    let trips = "1000 1101 12010000000002 140000 1000 1102 13000000 12010000000001 1002 00";
+    let pairs = [
+        (log, opens),
+        (log, trips),
+        (exchanged, trips),
+        (three, opens),
+        (three, tied),
+    ];
+    let pair = |(log, formula)| Pair {
+        log: hex(log),
+        formula: hex(formula),
+    };
+    pairs.into_iter().map(pair).collect()
+}
+
+/// A guard that has every expression command.
+fn every_expression() -> Vec<u8> {
+    let since = op(SUB, &[var(1), var(0)]);
+    let early = op(AT_MOST, &[since, op(ADD, &[count(0), constant(8)])]);
+    let few = op(LESS, &[count(1), constant(3)]);
+    let same = op(NOT, &[op(EQUAL, &[var(2), constant(9)])]);
+    let either = op(OR, &[constant(0), few.clone()]);
+    op(IF, &[few, op(AND, &[early, same]), either])
+}
+
+/// A formula that has every command and every operator, with a log.
+pub fn everything() -> Pair {
+    let events: [&[u32]; 6] = [
+        &[1, 0, 10],
+        &[2, 1, 10],
+        &[2, 2, 11],
+        &[4, 1, 12],
+        &[5, 3, 12],
+        &[9, 2, 40],
+    ];
+    let formula = file(&[
+        join(&[tied(0), tied(2), tied(0)]),
+        join(&[state(0), step(1), test(1, 4, 1), bind(0, 0), bind(1, 2)]),
+        join(&[step(2), test(1, 5, 2), bind(0, 0), bind(1, 2)]),
+        join(&[state(0), step(1), testv(0, 3, 0), bind(0, 1)]),
+        guard(every_expression()),
+        join(&[step(2), test(2, 2, 12), testv(1, 1, 2)]),
+        join(&[state(1), step(3), test(1, 0, 3), testv(2, 5, 0)]),
+        join(&[step(4), test(1, 3, 1), bind(2, 3)]),
+        join(&[state(2), state(3)]),
+    ]);
+    Pair {
+        log: log(&[1, 0, 1], &events),
+        formula,
+    }
+}
+
+/// Rolled pairs, not too long, that both readers accept.
+pub fn accepted(pairs: usize) -> Vec<Pair> {
+    let rolled = (0..).map(random::case).filter(|case| {
+        let fits = (20..=160).contains(&case.log.len()) && (50..=200).contains(&case.formula.len());
+        fits && read_both(&case.log, &case.formula).is_ok()
+    });
+    let pair = |case: random::Case| Pair {
+        log: case.log,
+        formula: case.formula,
+    };
+    rolled.take(pairs).map(pair).collect()
+}
+
+/// The largest number of events or one over it, with a formula that finds
+/// runs here and there.
+pub fn longest(over: usize) -> Pair {
+    let mut parts = vec![field(1), field(0)];
+    for number in 0..(MOST_EVENTS + over) as u32 {
+        parts.push(event(&[number / 2, number % 7]));
+    }
+    let formula = file(&[
+        join(&[state(0), step(1), test(1, 0, 1), bind(0, 0)]),
+        join(&[state(0), step(2), test(1, 0, 5), bind(0, 1)]),
+        join(&[step(3), test(1, 0, 3), bind(0, 1)]),
+        guard(op(LESS, &[op(SUB, &[var(1), var(0)]), constant(3)])),
+        join(&[state(2), state(3)]),
+    ]);
+    Pair {
+        log: file(&parts),
+        formula,
+    }
+}
+
+/// One configuration more an event, none dropped: so many events need so many
+/// seats.
+pub fn crowd(events: usize) -> Pair {
+    let mut parts = vec![field(1)];
+    for time in 0..events as u32 {
+        parts.push(event(&[time]));
+    }
+    let formula = file(&[
+        join(&[state(0), step(1)]),
+        join(&[state(0), step(2), bind(0, 0)]),
+        join(&[state(0), step(3), testv(0, 2, 0), step(3), test(0, 0, 5000)]),
+        state(2),
+    ]);
+    Pair {
+        log: file(&parts),
+        formula,
+    }
+}

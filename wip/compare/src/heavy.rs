@@ -1,0 +1,233 @@
+//! Heavy cases that are legal: 8 fields, 16 states, 8 steps in every state
+//! that may have them, up to 8 parts a step, long guards, seats nearly full.
+
+use crate::files::Pair;
+use reference::compose::*;
+
+#[derive(Clone, Copy, Debug, PartialEq, Eq)]
+pub enum Kind {
+    /// About 60 threads wait in ordinary states until every 128th event.
+    Ordinary,
+    /// About 60 threads wait behind guards of 31 commands, for 10 events each.
+    Guards,
+    /// About 60 threads move on at every event through committed states.
+    Committed,
+    /// Every start ends on the last event, and its tied value is new.
+    Overlap,
+    /// One thread a start waits to the end in vain.
+    Quiet,
+    /// No step of the first state ever fires.
+    Still,
+}
+
+impl Kind {
+    pub const ALL: [Kind; 6] = [
+        Kind::Ordinary,
+        Kind::Guards,
+        Kind::Committed,
+        Kind::Overlap,
+        Kind::Quiet,
+        Kind::Still,
+    ];
+
+    pub fn name(self) -> &'static str {
+        match self {
+            Kind::Ordinary => "ordinary",
+            Kind::Guards => "guards",
+            Kind::Committed => "committed",
+            Kind::Overlap => "overlap",
+            Kind::Quiet => "quiet",
+            Kind::Still => "still",
+        }
+    }
+
+    pub fn named(name: &str) -> Option<Kind> {
+        Kind::ALL.into_iter().find(|kind| kind.name() == name)
+    }
+}
+
+const EQUALS: u8 = 0;
+const UNEQUAL: u8 = 1;
+const LESS_THAN: u8 = 2;
+const AT_LEAST: u8 = 5;
+
+const TIME: u8 = 0;
+const CODE: u8 = 2;
+const MARK: u8 = 4;
+
+const REJECT_STATE: u8 = 14;
+const ACCEPT_STATE: u8 = 15;
+
+/// A log of so many events with a heavy formula.
+pub fn pair(kind: Kind, events: usize) -> Pair {
+    let period = match kind {
+        Kind::Overlap => events,
+        _ => 128,
+    };
+    let states = match kind {
+        Kind::Ordinary => ordinary(),
+        Kind::Guards => guards(),
+        Kind::Committed => committed(),
+        Kind::Overlap => overlap(),
+        Kind::Quiet => quiet(),
+        Kind::Still => still(),
+    };
+    Pair {
+        log: log_of(events as u32, period as u32),
+        formula: file(&states),
+    }
+}
+
+/// Time, when threads grow old, one of 60 codes, when the start grows old, a
+/// mark on the last event of each period, and three more.
+fn log_of(events: u32, period: u32) -> Vec<u8> {
+    let mut parts: Vec<Vec<u8>> = [1, 1, 0, 1, 0, 0, 1, 0].map(field).to_vec();
+    for n in 0..events {
+        let code = n * 7 % 60;
+        let mark = u32::from(n % period == period - 1);
+        parts.push(event(&[n, n + 10, code, n + 11, mark, n % 3, n / 3, n * n]));
+    }
+    file(&parts)
+}
+
+/// Seven tests that hold on every event.
+fn seven() -> Vec<u8> {
+    join(&[
+        test(TIME, AT_LEAST, 0),
+        test(1, AT_LEAST, 10),
+        test(CODE, UNEQUAL, 60),
+        test(3, AT_LEAST, 11),
+        test(MARK, UNEQUAL, 2),
+        test(5, UNEQUAL, 3),
+        test(7, UNEQUAL, 3),
+    ])
+}
+
+/// A step of eight tests of which only the last does not hold; it is hopeless
+/// from the start.
+fn hopeless(target: u8) -> Vec<u8> {
+    join(&[step(target), seven(), test(1, LESS_THAN, 10)])
+}
+
+/// A step of eight tests of which only the last does not hold; it is never
+/// hopeless.
+fn vain(target: u8) -> Vec<u8> {
+    join(&[step(target), seven(), test(CODE, EQUALS, 60)])
+}
+
+fn times(count: usize, part: Vec<u8>) -> Vec<u8> {
+    part.repeat(count)
+}
+
+/// A state that is reached by some path and by no run.
+fn idle(kind: u8, next: u8) -> Vec<u8> {
+    join(&[state(kind), times(7, hopeless(next)), vain(next)])
+}
+
+/// The first state: its last step fires on every event.
+fn first(parts: Vec<u8>) -> Vec<u8> {
+    let others = times(7, hopeless(REJECT_STATE));
+    join(&[state(0), others, step(1), parts])
+}
+
+/// States from `from` up to the ends, which no run reaches, and the ends.
+fn rest(from: u8, kind: u8) -> Vec<u8> {
+    let idle: Vec<Vec<u8>> = (from..REJECT_STATE)
+        .map(|number| idle(kind, number + 1))
+        .collect();
+    join(&[idle.concat(), state(3), state(2)])
+}
+
+/// Every code starts a thread in one of eight states; threads leave on a mark.
+fn ordinary() -> Vec<Vec<u8>> {
+    let mut parts = vec![first(bind(TIME, 7)), state(0)];
+    for number in 2..10 {
+        let eighth = test(7, UNEQUAL, 3);
+        // Eight codes a state.
+        let low = u32::from(number - 2) * 8;
+        let range = join(&[test(CODE, AT_LEAST, low), test(CODE, LESS_THAN, low + 8)]);
+        parts.push(join(&[step(number), eighth, range, bind(CODE, 0)]));
+    }
+    for number in 2..10 {
+        let leave = join(&[step(ACCEPT_STATE), seven(), test(MARK, EQUALS, 1)]);
+        let next = if number == 9 { 10 } else { REJECT_STATE };
+        parts.push(join(&[state(0), times(6, hopeless(next)), vain(10), leave]));
+    }
+    parts.push(rest(10, 0));
+    parts
+}
+
+/// 31 commands that come to 0: sixteen leaves, of which `leaf` is one.
+fn long_zero(leaf: Vec<u8>) -> Vec<u8> {
+    let pair = |code: u8| op(code, &[var(3), count(1)]);
+    let four = |one: u8, two: u8| op(AND, &[pair(one), pair(two)]);
+    let low = op(OR, &[four(ADD, SUB), four(SUB, ADD)]);
+    let high = op(
+        AND,
+        &[
+            four(AT_MOST, LESS),
+            op(AND, &[op(LESS, &[leaf, constant(0)]), pair(LESS)]),
+        ],
+    );
+    op(AND, &[low, high])
+}
+
+/// Six threads an event for 10 events; each waits for 10 events behind eight
+/// guards.
+fn guards() -> Vec<Vec<u8>> {
+    let mut parts = vec![first(bind(3, 4)), state(0)];
+    for number in 2..10 {
+        let young = testv(TIME, LESS_THAN, 4);
+        let code = match number < 8 {
+            true => test(CODE, LESS_THAN, 60),
+            false => test(CODE, EQUALS, 60),
+        };
+        parts.push(join(&[step(number), young, code, bind(1, 3)]));
+    }
+    for number in 2..10 {
+        let young = testv(TIME, LESS_THAN, 3);
+        let settled = join(&[young.clone(), guard(long_zero(var(3)))]);
+        let open = join(&[young, bind(CODE, 2), guard(long_zero(var(2)))]);
+        let next = if number == 9 { 10 } else { ACCEPT_STATE };
+        let seven = times(7, join(&[step(next), settled]));
+        parts.push(join(&[state(0), seven, step(next), open]));
+    }
+    parts.push(rest(10, 0));
+    parts
+}
+
+/// Two threads an event, each of which takes its last step on every event
+/// until it has taken 32 or there is a mark.
+fn committed() -> Vec<Vec<u8>> {
+    let mut parts = vec![first(bind(TIME, 7)), state(0), times(6, hopeless(2))];
+    parts.push(join(&[step(2), seven(), bind(TIME, 0)]));
+    parts.push(join(&[step(8), seven(), bind(TIME, 0)]));
+    for number in 2..REJECT_STATE {
+        let next = if number == 13 { 2 } else { number + 1 };
+        let leave = join(&[step(ACCEPT_STATE), seven(), test(MARK, EQUALS, 1)]);
+        let move_on = join(&[step(next), seven(), test(CODE, UNEQUAL, 60)]);
+        let others = times(6, hopeless(REJECT_STATE));
+        parts.push(join(&[state(1), others, leave, move_on]));
+    }
+    parts.push(join(&[state(3), state(2)]));
+    parts
+}
+
+/// All eight variables are tied; the last one differs from start to start.
+fn overlap() -> Vec<Vec<u8>> {
+    let mut parts: Vec<Vec<u8>> = (0..8).map(tied).collect();
+    let same: Vec<Vec<u8>> = (0..7).map(|variable| bind(MARK, variable)).collect();
+    parts.push(first(join(&[same.concat(), bind(TIME, 7)])));
+    let leave = join(&[step(ACCEPT_STATE), seven(), test(MARK, EQUALS, 1)]);
+    parts.push(join(&[state(0), times(6, hopeless(2)), vain(2), leave]));
+    parts.push(rest(2, 0));
+    parts
+}
+
+fn quiet() -> Vec<Vec<u8>> {
+    vec![first(bind(TIME, 7)), rest(1, 0)]
+}
+
+fn still() -> Vec<Vec<u8>> {
+    vec![rest(0, 0)]
+}
