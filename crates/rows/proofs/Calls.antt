@@ -1,0 +1,128 @@
+-- The checks of a call, one after the other: what each refusal leaves, and what the readers hand on.
+use Prim.Native.Nat.{ℕ, zero, suc, _*_, _<_, _≤_}
+use mathlib.Core.Path.{_≡_, refl, ap, sym, _∙_}
+use mathlib.Core.Bool.{false}
+use mathlib.Core.List.{List, [], _∷_}
+use native.Mathlib.Omega.{arith}
+use borrow.Author.Tests.{lt-ltb, le-ltb}
+use lib.ListN.{length, getD}
+use Rattle.base.specs.Lists.{Bytes}
+use Rattle.refusal.specs.declared.Refusal.{Refusal}
+use Rattle.refusal.specs.declared.Refusal.the-variants.{Short}
+use Rattle.event_log.specs.Log.{Log}
+use Rattle.event_log.specs.Encode as LogEncode
+use Rattle.event_log.specs.Correct as LogCorrect
+use Rattle.event_log.specs.declared.Verdict.the-variants as LogVerdict
+use Rattle.event_log.specs.declared.LogReading.{LogReading}
+use Rattle.event_log.specs.Read as LogRead
+use Rattle.event_log.proofs.Accepted.{accepted-is-encoding}
+use Rattle.formula.specs.Formula.{Formula}
+use Rattle.formula.specs.Lookup.{isTied}
+use Rattle.formula.specs.Read as FormulaRead
+use Rattle.formula.proofs.Reading.{accepted-correct}
+use Rattle.runs.specs.Search.{search}
+use Rattle.machine.specs.Machine.{machine}
+use Rattle.search.specs.Search.{slotsOf}
+use Rattle.analysis.specs.declared.Outcome.{Outcome}
+use Rattle.analysis.specs.declared.Outcome.the-variants.{Refused}
+use Rattle.formula_reader.specs.declared.Verdict.the-variants as FormulaVerdict
+use Rattle.formula_reader.specs.declared.FormulaReading.{FormulaReading}
+use Rattle.formula_reader.specs.Answer.{answerOf as formulaAnswer, kindsOf, tiesOf}
+use Rattle.engine.proofs.Calls.{LogTaken, FormulaTaken, log-refused, log-taken, formula-refused, formula-taken}
+use Rattle.analysis.specs.Rows.{rowsFrom}
+use Rattle.analysis.specs.Analysis.{Analysed, writtenInto, checked, withFormula, analysis}
+use Rattle.rows.specs.Starts.{Given, wordsPass, passesFormula, passes, Leaves}
+
+-- refusal 10 for work words, 10 for rows, and no refusal
+module _ (g : Log) (fm : Formula) (work rows : List ℕ) where
+  pub short-work : length work < 192 → Leaves (checked g fm (length work) rows) (wordsPass (length work) (length rows) (length (g .events))) work work rows (Refused (Short 192))
+  unfolding checked
+  short-work h = rw (lt-ltb (length work) 192 h) (record { outcome = refl; rows = refl; work = λ e. refl })
+
+  pub short-rows : (events : ℕ) → events ≡ length (g .events) → 192 ≤ length work → length rows < 12 * events
+      → Leaves (checked g fm (length work) rows) (wordsPass (length work) (length rows) (length (g .events))) work work rows (Refused (Short (12 * events)))
+  unfolding checked
+  short-rows events e h k = rw (e, le-ltb (length work) 192 h, lt-ltb (length rows) (12 * length (g .events)) (rw e at k)) (record { outcome = refl; rows = refl; work = λ q. refl })
+
+  pub enough : (events slots : ℕ) (work-after after : List ℕ) (r : Outcome) → events ≡ length (g .events) → 192 ≤ length work → 12 * events ≤ length rows → slots ≡ slotsOf (length work)
+      → _≡_ {A = Analysed} (record { outcome = r; rows = after }) (writtenInto (rowsFrom g fm (search (machine g fm) slots) (length (g .events)) 0 []) rows)
+      → Leaves (checked g fm (length work) rows) (wordsPass (length work) (length rows) (length (g .events))) work work-after after r
+  unfolding checked
+  enough events slots work-after after r e h k s a =
+      rw (le-ltb (length work) 192 h, le-ltb (length rows) (12 * length (g .events)) (rw e at k), ← s)
+      (record { outcome = ap (λ (x : Analysed). x .outcome) a; rows = ap (λ (x : Analysed). x .rows) a; work = λ q. let z : _≡_ {A = ℕ} 0 1 = cc in absurd (omega arith) })
+
+-- the flag of a variable says whether it is tied
+tie-at : (ws : List ℕ) (v : ℕ) → v < 8 → getD (tiesOf ws) v false ≡ isTied v ws
+unfolding tiesOf
+tie-at ws zero h = refl
+tie-at ws (suc zero) h = refl
+tie-at ws (suc (suc zero)) h = refl
+tie-at ws (suc (suc (suc zero))) h = refl
+tie-at ws (suc (suc (suc (suc zero)))) h = refl
+tie-at ws (suc (suc (suc (suc (suc zero))))) h = refl
+tie-at ws (suc (suc (suc (suc (suc (suc zero)))))) h = refl
+tie-at ws (suc (suc (suc (suc (suc (suc (suc zero))))))) h = refl
+tie-at ws (suc (suc (suc (suc (suc (suc (suc (suc v)))))))) h = absurd (omega arith)
+
+-- the formula is refused
+pub refused-formula : (g : Log) (f work rows : List ℕ) (r : FormulaReading) (why : Refusal) → r ≡ formulaAnswer (FormulaRead.readFormula (g .fields) f) → r .verdict ≡ FormulaVerdict.Refused why
+    → Leaves (withFormula g (FormulaRead.readFormula (g .fields) f) (length work) rows) (passesFormula g (FormulaRead.readFormula (g .fields) f) (length work) (length rows)) work work rows (Refused why)
+refused-formula g f work rows r why e h =
+    let x = FormulaRead.readFormula (g .fields) f in
+    let q : x ≡ FormulaRead.refused why = formula-refused x why (ap (λ (a : FormulaReading). a .verdict) (sym e) ∙ h) in
+    rw q (record { outcome = refl; rows = refl; work = λ p. refl })
+
+-- the formula is accepted
+module _ (g : Log) (l f : List ℕ) (log : LogReading) (r : FormulaReading) (bytes : Bytes f) (read : log ≡ LogRead.answerOf (LogRead.accepted g)) (here : l ≡ LogEncode.encode g) (ok : LogCorrect.Correct g) (e : r ≡ formulaAnswer (FormulaRead.readFormula (g .fields) f)) (h : r .verdict ≡ FormulaVerdict.Accepted) where
+  taken : FormulaTaken (FormulaRead.readFormula (g .fields) f)
+  taken = formula-taken (FormulaRead.readFormula (g .fields) f) (ap (λ (a : FormulaReading). a .verdict) (sym e) ∙ h)
+
+  given : Given g (taken .formula) l log f (r .table) (r .kinds) (r .ties)
+  unfolding formulaAnswer kindsOf tiesOf LogRead.answerOf
+  given =
+      let a : r ≡ formulaAnswer (FormulaRead.accepted (taken .formula)) = e ∙ ap formulaAnswer (taken .is) in
+      let c = accepted-correct (g .fields) f (taken .formula) bytes (taken .is) in
+      record {
+        setting = record { log = ok; formula = c .1; bytes = c .0; table-is = ap (λ (x : FormulaReading). x .table) a; kinds-are = ap (λ (x : FormulaReading). x .kinds) a; rising-are = ap (λ (x : LogReading). x .rises) read };
+        log-bytes = here;
+        fields-are = ap (λ (x : LogReading). x .fields) read;
+        events-are = ap (λ (x : LogReading). x .events) read;
+        first-is = ap (λ (x : LogReading). x .first) read;
+        tied-8 = ap (λ (x : FormulaReading). length (x .ties)) a;
+        tied-are = λ v k. ap (λ (x : FormulaReading). getD (x .ties) v false) a ∙ tie-at (taken .formula .tied) v k;
+      }
+
+  pub accepted-formula : (work work-after rows rows-after : List ℕ) (o : Outcome)
+      → ((fm : Formula) → Given g fm l log f (r .table) (r .kinds) (r .ties) → Leaves (checked g fm (length work) rows) (wordsPass (length work) (length rows) (length (g .events))) work work-after rows-after o)
+      → Leaves (withFormula g (FormulaRead.readFormula (g .fields) f) (length work) rows) (passesFormula g (FormulaRead.readFormula (g .fields) f) (length work) (length rows)) work work-after rows-after o
+  accepted-formula work work-after rows rows-after o go = rw (taken .is) (go (taken .formula) given)
+
+-- the log is refused
+pub refused-log : (l f work rows : List ℕ) (log : LogReading) (why : Refusal) → log ≡ LogRead.answerOf (LogRead.readLog l) → log .verdict ≡ LogVerdict.Refused why
+    → Leaves (analysis l f (length work) rows) (passes l f (length work) (length rows)) work work rows (Refused why)
+unfolding analysis passes
+refused-log l f work rows log why e h =
+    let q : LogRead.readLog l ≡ LogRead.refused why = log-refused (LogRead.readLog l) why (ap (λ (a : LogReading). a .verdict) (sym e) ∙ h) in
+    rw q (record { outcome = refl; rows = refl; work = λ p. refl })
+
+-- the log is accepted
+module _ (l f : List ℕ) (log : LogReading) (bytes : Bytes l) (e : log ≡ LogRead.answerOf (LogRead.readLog l)) (h : log .verdict ≡ LogVerdict.Accepted) where
+  read : LogTaken (LogRead.readLog l)
+  read = log-taken (LogRead.readLog l) (ap (λ (a : LogReading). a .verdict) (sym e) ∙ h)
+
+  same : log ≡ LogRead.answerOf (LogRead.accepted (read .log))
+  same = e ∙ ap LogRead.answerOf (read .is)
+
+  encoding : (l ≡ LogEncode.encode (read .log)) × LogCorrect.Correct (read .log)
+  encoding = accepted-is-encoding l (read .log) bytes (read .is)
+
+  pub few-events : log .events ≤ 1024
+  unfolding LogRead.answerOf
+  few-events = let q : log .events ≡ length (read .log .events) = ap (λ (x : LogReading). x .events) same in omega (arith, encoding .1 .most-events)
+
+  pub accepted-log : (work work-after rows rows-after : List ℕ) (o : Outcome)
+      → ((g : Log) → log ≡ LogRead.answerOf (LogRead.accepted g) → l ≡ LogEncode.encode g → LogCorrect.Correct g → Leaves (withFormula g (FormulaRead.readFormula (g .fields) f) (length work) rows) (passesFormula g (FormulaRead.readFormula (g .fields) f) (length work) (length rows)) work work-after rows-after o)
+      → Leaves (analysis l f (length work) rows) (passes l f (length work) (length rows)) work work-after rows-after o
+  unfolding analysis passes
+  accepted-log work work-after rows rows-after o go = rw (read .is) (go (read .log) same (encoding .0) (encoding .1))

@@ -1,0 +1,48 @@
+-- `rows::with_formula` meets its contract: 10 for work words, 10 for rows, then every start.
+use lib.ListN.{length}
+use Rattle.engine.proofs.Calls.{slots-fit}
+use Rattle.rows.proofs.Calls.{short-work, short-rows, enough}
+use denote.Ref.{now}
+use borrow.Author.Needs.{needs}
+use Rattle.rows.proofs.with_formula.Statement.{statement}
+use Rattle.rows.proofs.with_formula.Tie as tie
+
+returns : tie.Need-returns
+returns c = λ g fm given. short-work g fm (now (c .before .before .before .before .before .before .before .args .work)) (now (c .before .before .before .before .before .before .before .args .rows)) (c .if1 .taken)
+
+mul-needed : tie.Need-mul-needed
+mul-needed c = search needs
+
+returns-2 : tie.Need-returns-2
+returns-2 c = λ g fm given. short-rows g fm (now (c .before .before .before .before .before .before .before .before .before .args .work)) (now (c .before .before .before .before .before .before .before .before .before .args .rows)) (c .before .before .before .before .before .before .before .before .before .args .log .events) (given .events-are) (c .before .before .if1 .left) (c .if2 .taken)
+
+slots-of-requires : tie.Need-slots-of-requires
+slots-of-requires c κs = search needs
+
+all-starts-requires : tie.Need-all-starts-requires
+all-starts-requires c κs =
+    let s = slots-fit (length (now (c .before .before .before .before .before .before .before .before .before .before .before .before .args .work))) (c .before .before .before .before .before .if1 .left) in
+    (rw (c .before .before .slots-of .ensures) (s .0), rw (c .before .before .slots-of .ensures) (s .1), c .before .before .before .before .before .before .before .before .before .before .before .before .pre, c .before .before .before .if2 .left)
+
+same-length : tie.Need-same-length
+same-length c = search needs
+
+same-length-2 : tie.Need-same-length-2
+same-length-2 c = search needs
+
+returns-3 : tie.Need-returns-3
+returns-3 c =
+    λ g fm given. enough g fm (now (c .before .before .before .before .before .before .before .before .before .before .before .before .before .before .before .before .before .args .work)) (now (c .before .before .before .before .before .before .before .before .before .before .before .before .before .before .before .before .before .args .rows)) (c .before .before .before .before .before .before .before .before .before .before .before .before .before .before .before .before .before .args .log .events) (c .before .before .before .before .before .before .before .slots-of .result) _ _ _ (given .events-are) (c .before .before .before .before .before .before .before .before .before .before .if1 .left) (c .before .before .before .before .before .before .before .before .if2 .left) (c .before .before .before .before .before .before .before .slots-of .ensures) (c .before .before .before .before .all-starts .ensures g fm given)
+
+pub with-formula-spec : {M : Type 1} → statement M
+with-formula-spec =
+    tie.close
+    (tie.spec
+    returns
+    mul-needed
+    returns-2
+    slots-of-requires
+    all-starts-requires
+    same-length
+    same-length-2
+    returns-3)

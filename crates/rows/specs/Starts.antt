@@ -1,0 +1,152 @@
+-- Rows read back as the runs that they hold, and one start over rows already written.
+use Prim.Native.Nat.{ℕ, zero, suc, _-_, _*_, _/_, _%_, _<_, min}
+use mathlib.Core.Path.{_≡_}
+use mathlib.Core.Bool.{Bool, true, false, cond, not, _&&_}
+use mathlib.Core.List.{List, [], _∷_, _++_}
+use lib.ListN.{length, getD, take, drop}
+use lib.Dec.{ltb, eqb}
+use Rattle.refusal.specs.declared.Refusal.the-variants.{Crowded}
+use Rattle.event_log.specs.Log.{Log}
+use Rattle.event_log.specs.Encode as LogEncode
+use Rattle.event_log.specs.Event.{eventPlace}
+use Rattle.event_log.specs.Correct as LogCorrect
+use Rattle.event_log.specs.declared.LogReading.{LogReading}
+use Rattle.event_log.specs.Read as LogRead
+use Rattle.formula.specs.Formula.{Formula}
+use Rattle.formula.specs.Lookup.{isTied}
+use Rattle.formula.specs.Read as FormulaRead
+use Rattle.runs.specs.Search.{Answer, found, absent, crowded, search}
+use Rattle.machine.specs.Machine.{machine}
+use Rattle.slots.specs.Words.{put}
+use Rattle.threads.specs.Setting.{Setting}
+use Rattle.search.specs.declared.Verdict.{Verdict}
+use Rattle.search.specs.declared.Verdict.the-variants.{Refused, Absent, Accept, Reject}
+use Rattle.search.specs.declared.SearchAnswer.{SearchAnswer}
+use Rattle.rows.specs.declared.RowRun.{RowRun}
+use Rattle.analysis.specs.declared.Outcome.{Outcome}
+use Rattle.analysis.specs.declared.Outcome.the-variants.{Done, Refused as RefusedOutcome}
+use Rattle.analysis.specs.Rows.{NamedRun, named, alike, verdict, noneRow, row, Written, all, upto, rowsFrom}
+use Rattle.analysis.specs.Analysis.{Analysed, writtenInto, checked, withFormula}
+
+-- the struct of a named run, as the definition has it
+abbrev pub namedOf : RowRun → NamedRun
+namedOf r = record { accepts = r .accepts; last = r .last; steps = r .steps; held = r .held; values = r .values }
+
+-- the variables of an array of flags that are set, the first one being v
+unfoldable pub variablesFrom : ℕ → List Bool → List ℕ
+variablesFrom v [] = []
+variablesFrom v (b ∷ bs) = cond b (v ∷ variablesFrom (suc v) bs) (variablesFrom (suc v) bs)
+
+abbrev pub variables : List Bool → List ℕ
+variables tied = variablesFrom 0 tied
+
+-- what the tie rule asks of one variable, where it is tied
+abbrev pub agrees : Bool → Bool → ℕ → Bool → ℕ → Bool
+agrees tied a x b y = cond tied (alike a b x y) true
+
+-- the lowest n bits of a mask, "bit v set if variable v is held"
+unfoldable pub bitsOf : ℕ → ℕ → List Bool
+bitsOf zero m = []
+bitsOf (suc n) m = eqb (m % 2) 1 ∷ bitsOf n (m / 2)
+
+-- the run that the 12 words of a row hold
+unfoldable pub runIn : List ℕ → NamedRun
+runIn ws = record { accepts = not (eqb (getD ws 0 0) 3); last = getD ws 1 0; steps = getD ws 2 0; held = bitsOf 8 (getD ws 3 0); values = take 8 (drop 4 ws) }
+
+-- a none row holds no run
+unfoldable pub runIf : List ℕ → List NamedRun
+runIf ws = cond (eqb (getD ws 0 0) 0) [] (runIn ws ∷ [])
+
+-- the runs that the first k rows hold, in order
+unfoldable pub runsIn : ℕ → List ℕ → List NamedRun
+runsIn zero rows = []
+runsIn (suc k) rows = runsIn k rows ++ runIf (take 12 (drop (k * 12) rows))
+
+-- the run that a search answers, for a row: a run has at most 32 steps
+abbrev pub runOf : SearchAnswer → Bool → NamedRun
+runOf a accepts = record { accepts = accepts; last = getD (a .events) (min (a .steps) 32 - 1) 0; steps = min (a .steps) 32; held = a .held; values = a .values }
+
+-- the row of a search's answer; where the search is refused, there is none
+abbrev pub rowBy : List ℕ → ℕ → List NamedRun → SearchAnswer → Verdict → List ℕ
+rowBy tied start earlier a (Refused r) = noneRow
+rowBy tied start earlier a Absent = noneRow
+rowBy tied start earlier a Accept = row (verdict tied start (runOf a true) earlier) (runOf a true)
+rowBy tied start earlier a Reject = row (verdict tied start (runOf a false) earlier) (runOf a false)
+
+-- a search that is refused, as it is where it is crowded
+abbrev pub isRefused : Verdict → Bool
+isRefused (Refused r) = true
+isRefused Absent = false
+isRefused Accept = false
+isRefused Reject = false
+
+-- one start: whether its row is written, and every row word after it
+pub record Turn : Type 0 where
+  pub written : Bool
+  pub rows : List ℕ
+
+abbrev pub turnOf : (g : Log) (fm : Formula) → ℕ → List ℕ → Answer (machine g fm) → Turn
+turnOf g fm start rows (found c t width) =
+    record { written = true; rows = put rows (start * 12) (row (verdict (fm .tied) start (named fm c t) (runsIn start rows)) (named fm c t)) }
+turnOf g fm start rows (absent width) = record { written = true; rows = put rows (start * 12) noneRow }
+turnOf g fm start rows (crowded n) = record { written = false; rows = rows }
+
+-- the words of the starts from `start` on, over rows already written
+abbrev pub resumed : ℕ → Written → List ℕ → Analysed
+resumed start (all ws) rows = record { outcome = Done; rows = put rows (start * 12) ws }
+resumed start (upto i ws) rows = record { outcome = RefusedOutcome (Crowded i); rows = put rows (start * 12) ws }
+
+-- an accepted log and an accepted formula, as the two readers hand them on
+pub record Given (g : Log) (fm : Formula) (l : List ℕ) (log : LogReading) (f table kinds : List ℕ) (tied : List Bool) : Type 0 where
+  pub setting : Setting g fm f table kinds (log .rises)
+  pub log-bytes : l ≡ LogEncode.encode g
+  pub fields-are : log .fields ≡ length (g .fields)
+  pub events-are : log .events ≡ length (g .events)
+  pub first-is : log .first ≡ eventPlace g 0
+  pub tied-8 : length tied ≡ 8
+  pub tied-are : (v : ℕ) → v < 8 → getD tied v false ≡ isTied v (fm .tied)
+
+-- what one start leaves, over rows already written: "writes 12 words", or crowded
+abbrev pub OneStart : List ℕ → LogReading → ℕ → List ℕ → List ℕ → List ℕ → List Bool → ℕ → ℕ → List ℕ → List ℕ → Bool → Type 0
+OneStart l log at f table kinds tied start slots before after r =
+    (g : Log) (fm : Formula) → Given g fm l log f table kinds tied → at ≡ eventPlace g start → start < log .events
+    → _≡_ {A = Turn} (record { written = r; rows = after }) (turnOf g fm start before (search (machine g fm) slots start))
+
+-- what all starts leave
+abbrev pub AllStarts : List ℕ → LogReading → List ℕ → List ℕ → List ℕ → List Bool → ℕ → List ℕ → List ℕ → Outcome → Type 0
+AllStarts l log f table kinds tied slots before after r =
+    (g : Log) (fm : Formula) → Given g fm l log f table kinds tied
+    → _≡_ {A = Analysed} (record { outcome = r; rows = after }) (writtenInto (rowsFrom g fm (search (machine g fm) slots) (length (g .events)) 0 []) before)
+
+-- the call passes all its checks: the log, the formula, the work words, the row words
+abbrev pub wordsPass : ℕ → ℕ → ℕ → Bool
+wordsPass words rows events = not (ltb words 192) && not (ltb rows (12 * events))
+
+abbrev pub passesFormula : Log → FormulaRead.Reading → ℕ → ℕ → Bool
+passesFormula g (FormulaRead.accepted fm) words rows = wordsPass words rows (length (g .events))
+passesFormula g (FormulaRead.refused r) words rows = false
+
+abbrev pub passesLog : LogRead.Reading → List ℕ → ℕ → ℕ → Bool
+passesLog (LogRead.accepted g) f words rows = passesFormula g (FormulaRead.readFormula (g .fields) f) words rows
+passesLog (LogRead.refused r) f words rows = false
+
+unfoldable pub passes : List ℕ → List ℕ → ℕ → ℕ → Bool
+passes l f words rows = passesLog (LogRead.readLog l) f words rows
+
+-- What a call leaves: its answer, every lent row word, and, where a check refuses it, the lent work words as they were. "Left open
+-- are the work words after a call that passed its checks."
+pub record Leaves (a : Analysed) (pass : Bool) (work-before work-after rows-after : List ℕ) (r : Outcome) : Type 0 where
+  pub outcome : r ≡ a .outcome
+  pub rows : rows-after ≡ a .rows
+  pub work : pass ≡ false → work-after ≡ work-before
+
+-- what is left behind the formula's reader, and behind the log's
+abbrev pub WithFormula : List ℕ → LogReading → List ℕ → List ℕ → List ℕ → List Bool → List ℕ → List ℕ → List ℕ → List ℕ → Outcome → Type 0
+WithFormula l log f table kinds tied work work-after rows rows-after r =
+    (g : Log) (fm : Formula) → Given g fm l log f table kinds tied
+    → Leaves (checked g fm (length work) rows) (wordsPass (length work) (length rows) (length (g .events))) work work-after rows-after r
+
+abbrev pub WithLog : List ℕ → List ℕ → LogReading → List ℕ → List ℕ → List ℕ → List ℕ → Outcome → Type 0
+WithLog l f log work work-after rows rows-after r =
+    (g : Log) → log ≡ LogRead.answerOf (LogRead.accepted g) → l ≡ LogEncode.encode g → LogCorrect.Correct g
+    → Leaves (withFormula g (FormulaRead.readFormula (g .fields) f) (length work) rows) (passesFormula g (FormulaRead.readFormula (g .fields) f) (length work) (length rows)) work work-after rows-after r
