@@ -1,17 +1,14 @@
 -- A correct log and a correct formula keep what the theory of runs asks of their machine, so that the list of threads gives the search's answer.
 use Prim.Native.Nat.{ℕ, _≤_, zero-le}
 use mathlib.Core.Path.{_≡_}
-use mathlib.Core.Logic.{_↔_}
 use lib.ListN.{length}
 use Rattle.event_log.specs.Log.{Log}
 use Rattle.event_log.specs.Correct as LogCorrect
 use Rattle.formula.specs.Formula.{Formula}
 use Rattle.formula.specs.Correct as FormulaCorrect
-use Rattle.runs.specs.Search.{Answer, search}
-use Rattle.runs.specs.Demand.{Demand}
+use Rattle.runs.specs.Search.{search}
 use Rattle.runs.specs.Threads.{threads}
 use Rattle.runs.proofs.Select.{threads-search}
-use Rattle.runs.proofs.Exactly.{exactly}
 use Rattle.machine.specs.Machine.{machine}
 use Rattle.machine.proofs.Premises.{keeps, keeps-first}
 
@@ -19,7 +16,3 @@ module _ (g : Log) (fm : Formula) (log : LogCorrect.Correct g) (formula : Formul
   -- the list of threads gives the search's answer
   pub threads-give : (slots i : ℕ) → i ≤ length (g .events) → threads (machine g fm) slots i ≡ search (machine g fm) slots i
   threads-give slots i h = threads-search (machine g fm) (keeps g fm log formula) slots i (rw (keeps-first g fm log formula) zero-le) h
-
-  -- The third demand, in both directions: the search's answer is the one that the demand describes.
-  pub demanded : (slots i : ℕ) → i ≤ length (g .events) → (a : Answer (machine g fm)) → (search (machine g fm) slots i ≡ a) ↔ Demand (machine g fm) slots i a
-  demanded slots i h a = exactly (machine g fm) (keeps g fm log formula) slots i h a

@@ -6,3 +6,4 @@ pub mod Subsuming
 pub mod Fitting
 pub mod Turns
 pub mod Calls
+pub mod Entry

@@ -5,20 +5,23 @@ ghost use lib.ListN.{length};
 use libc::STDOUT_FILENO;
 use refusal::Refusal;
 
-// A file of the folder that the program is run in; one that is missing counts as empty. More than 65,536 bytes are not read: no
-// correct file has as many, and the bytes behind them decide nothing.
+// What was read of a file: whether the system told of no error, and how many bytes. A missing file counts as empty; bytes beyond
+// 65,536 are not read, because no correct file has as many and they decide nothing.
 struct Loaded {
     ok: bool,
     len: usize,
 }
 
-// Reads a file to the buffer's start. Whether the input ended (or the buffer is full), and not a read that failed.
+// Reads a file of the folder that the program is run in to the buffer's start; one read more tells an error from the end.
 fn load(path: &[u8], buffer: &mut [u8]) -> Loaded
     ensures { λ r. ⌜ r .len ≤ length (now (buffer .exit)) ⌝ }
 {
     let fd = os::open_read(path);
     if fd < 0 {
-        return Loaded { ok: true, len: 0 };
+        return Loaded {
+            ok: os::errno() == libc::ENOENT,
+            len: 0,
+        };
     }
     let len = io::read_full(fd, buffer);
     let mut probe = [0u8; 1];
@@ -79,7 +82,8 @@ fn print_word(verdict: u32) {
         1 => io::write_all(STDOUT_FILENO, b" alert"),
         2 => io::write_all(STDOUT_FILENO, b" subsumed"),
         _ => io::write_all(STDOUT_FILENO, b" rejected"),
-    };
+    }
+    ;
 }
 
 // The line of one event: number, word and, unless none, last event, steps and held variables.
@@ -131,7 +135,7 @@ fn print_rows(rows: &[u32], events: usize) {
 fn report(l: &[u8], f: &[u8]) {
     let mut work = [0u32; 12288];
     let mut rows = [0u32; 12288];
-    let outcome = analysis::analyse(l, f, &mut work, &mut rows);
+    let outcome = rows::analyse(l, f, &mut work, &mut rows);
     match outcome {
         Outcome::Done => {
             let reading = event_log::read_log(l);
