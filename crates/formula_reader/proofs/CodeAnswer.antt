@@ -25,19 +25,19 @@ use Rattle.formula.specs.Formula.{StateKind, State, Formula}
 use Rattle.formula.specs.Encode.{Command, kindByte, encodeCommand, commands}
 use Rattle.formula.specs.Unbound.{edgesFrom, unbound, isUnbound}
 use Rattle.formula.specs.Correct.{final, deadStart}
-use Rattle.formula.specs.Lookup.{stepTable}
+use Rattle.formula.specs.Lookup.{stepTable, tiedMask}
 use Rattle.formula.specs.Read.{Reading, accepted, refused, Summary, start, gatherAll, assemble, firstAbsent, firstUnbound, refusedAt, judge, afterEnd, readFormula}
 use Rattle.formula_reader.specs.Prefix.{place, placeOf}
 use Rattle.formula_reader.specs.Take.{told}
 use Rattle.formula_reader.specs.Scan.{emptyDraft, finishedWith, scanFile, Scanned}
 use Rattle.formula_reader.specs.Reach.{reachOf, Free}
-use Rattle.formula_reader.specs.Answer.{tiesOf, kindsOf, answerOf, acceptedWith, judgedWith}
+use Rattle.formula_reader.specs.Answer.{maskOf, kindsOf, answerOf, acceptedWith, judgedWith}
 use Rattle.formula.proofs.Commands.{Operands, Ended}
 use Rattle.formula.proofs.Gather.{commands-assemble}
 use Rattle.formula.proofs.Reading.{advances, states-passed, reached-start, Complete, reached-end}
 use Rattle.formula.proofs.Table.{fill, fill-table}
 use Rattle.formula_reader.proofs.CodeTrace.{draftAfter, last-kind, told-after, at-after, Whole, Broken, Outcome, outcome}
-use Rattle.formula_reader.proofs.CodeOutline.{table-after, kinds-after, ties-after, absent-after}
+use Rattle.formula_reader.proofs.CodeOutline.{table-after, kinds-after, mask-after, absent-after}
 use Rattle.formula_reader.proofs.CodeBound.{unbound-after}
 use Rattle.formula_reader.proofs.CodeEdges.{Rep, steps-kept, reach-is}
 
@@ -142,14 +142,14 @@ module _ (fields : ℕ) (l : List ℕ) (w : Whole fields l (suc (length l)) star
     unfolding emptyDraft start
     table-is = table-after limit free emptyDraft (w .es) ∙ ap (fill start 0 (replicate 128 0)) (sym same-commands) ∙ fill-table read-as (complete .counts)
 
-    ties-is : draft .outline .ties ≡ tiesOf (read-as .tied)
-    unfolding assemble
-    ties-is = ties-after limit free (w .es)
+    tied-is : maskOf (draft .outline .ties) ≡ tiedMask read-as
+    unfolding assemble tiedMask
+    tied-is = mask-after limit free (w .es)
 
     -- what was gathered is the formula's
     accepted-is : acceptedWith draft ≡ answerOf (accepted read-as)
     unfolding answerOf
-    accepted-is = rw (states-is, kinds-is, table-is, ties-is)
+    accepted-is = rw (states-is, kinds-is, table-is, tied-is)
 
     -- the steps were kept, so the marks worked out on them are the definition's
     marks-are : (r : List Bool) → Free (draft .edges) r → (v s : ℕ) → v < 8 → s < 16 → getD r (v * 16 + s) false ≡ isUnbound read-as v s

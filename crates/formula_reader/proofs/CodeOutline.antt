@@ -1,29 +1,29 @@
 -- What the walk gathers is what the definition assembles: the table, the kinds, the tied variables, the first absent state.
 use Prim.Native.Nat.{ℕ, zero, suc, _+_, _-_, _*_, _<_, _≤_}
 use mathlib.Core.Path.{_≡_, refl, sym, ap, _∙_, subst}
-use mathlib.Core.Bool.{Bool, true, false, not, _||_}
+use mathlib.Core.Bool.{Bool, true, false, cond, not, _||_}
 use mathlib.Core.Logic.{⊎-elim}
 use mathlib.Core.List.{List, [], _∷_, _++_, map, append-assoc, append-nil}
 use mathlib.Core.Option.{Option, none, some}
 use native.Mathlib.Omega.{arith}
 use native.Mathlib.Numerals.{add-one}
-use native.Mathlib.Nat.{zero-add}
+use native.Mathlib.Nat.{add-zero}
 use native.Mathlib.Decide.{decLt}
 use borrow.Author.Tests.{eq-eqb, ne-eqb, eqb-true, eqb-false}
 use lib.Dec.{ltb, eqb}
 use lib.ListN.{length, getD, set, replicate, length-append, length-set, getD-replicate}
-use lib.Seq.{getD-set-same, getD-set-other, append-snoc, ext-getD}
+use lib.Seq.{getD-set-same, getD-set-other, append-snoc}
 use Rattle.base.specs.Lists.{All, pad}
 use Rattle.base.proofs.Lists.{set-pad}
 use Rattle.formula_reader.specs.declared.Draft.{Draft}
 use Rattle.formula.specs.Formula.{TEST, TESTV, BIND, State}
 use Rattle.formula.specs.Encode.{Command, TIED, STATE, STEP, CLAUSE, GUARD, kindByte, encodeCommand}
-use Rattle.formula.specs.Lookup.{isTied}
+use Rattle.formula.specs.Lookup.{isTied, maskFrom}
 use Rattle.formula.specs.Read.{Summary, start, advance, gatherAll, orElse, when, absentIn, firstAbsent}
 use Rattle.formula_reader.specs.Prefix.{place, placeOf}
 use Rattle.formula_reader.specs.Take.{told}
 use Rattle.formula_reader.specs.Scan.{emptyDraft}
-use Rattle.formula_reader.specs.Answer.{tiesOf}
+use Rattle.formula_reader.specs.Answer.{maskOf}
 use Rattle.formula.proofs.Gather.{Follows}
 use Rattle.formula.proofs.Table.{filled, fill}
 use Rattle.formula_reader.proofs.CodeGuard.{place-when, first-or, or-assoc}
@@ -104,17 +104,6 @@ module _ (limit : ℕ) (free : List Bool) where
   ties-at d (CLAUSE (BIND f v) ∷ cs) w h = ties-at (addC limit free d (CLAUSE (BIND f v))) cs w h
   ties-at d (GUARD x ∷ cs) w h = ties-at (addC limit free d (GUARD x)) cs w h
 
-  ties-length : (d : Draft) (cs : List Command) → length (draftAfter limit free d cs .outline .ties) ≡ length (d .outline .ties)
-  unfolding draftAfter
-  ties-length d [] = refl
-  ties-length d (TIED v ∷ cs) = ties-length (addC limit free d (TIED v)) cs ∙ length-set (d .outline .ties) v true
-  ties-length d (STATE k ∷ cs) = ties-length (addC limit free d (STATE k)) cs
-  ties-length d (STEP t ∷ cs) = ties-length (addC limit free d (STEP t)) cs
-  ties-length d (CLAUSE (TEST f o x) ∷ cs) = ties-length (addC limit free d (CLAUSE (TEST f o x))) cs
-  ties-length d (CLAUSE (TESTV f o v) ∷ cs) = ties-length (addC limit free d (CLAUSE (TESTV f o v))) cs
-  ties-length d (CLAUSE (BIND f v) ∷ cs) = ties-length (addC limit free d (CLAUSE (BIND f v))) cs
-  ties-length d (GUARD x ∷ cs) = ties-length (addC limit free d (GUARD x)) cs
-
   -- the first absent state
   absent-add : (d : Draft) (c : Command) (o : Option ℕ) → d .found .absent ≡ placeOf o → addC limit free d c .found .absent ≡ placeOf (orElse o (absentIn limit (d .at) c))
   absent-add d (TIED v) o e = e ∙ ap placeOf (sym (or-none o))
@@ -130,23 +119,14 @@ module _ (limit : ℕ) (free : List Bool) where
   absent-after d [] o e = e ∙ ap placeOf (sym (or-none o))
   absent-after d (c ∷ cs) o e = absent-after (addC limit free d c) cs (orElse o (absentIn limit (d .at) c)) (absent-add d c o e) ∙ ap placeOf (or-assoc o (absentIn limit (d .at) c) (firstAbsent limit (d .at + length (encodeCommand c)) cs))
 
--- the entry of each variable
-tied-entry : (ws : List ℕ) (w : ℕ) → w < 8 → getD (tiesOf ws) w false ≡ isTied w ws
-unfolding tiesOf
-tied-entry ws zero h = refl
-tied-entry ws (suc zero) h = refl
-tied-entry ws (suc (suc zero)) h = refl
-tied-entry ws (suc (suc (suc zero))) h = refl
-tied-entry ws (suc (suc (suc (suc zero)))) h = refl
-tied-entry ws (suc (suc (suc (suc (suc zero))))) h = refl
-tied-entry ws (suc (suc (suc (suc (suc (suc zero)))))) h = refl
-tied-entry ws (suc (suc (suc (suc (suc (suc (suc zero))))))) h = refl
-tied-entry ws (suc (suc (suc (suc (suc (suc (suc (suc w)))))))) h = absurd (omega arith)
+-- marks that are those of the tied variables make their mask
+mask-is : (m : List Bool) (ws : List ℕ) → ((w : ℕ) → w < 8 → getD m w false ≡ isTied w ws) → maskOf m ≡ maskFrom ws 0 8
+unfolding maskOf maskFrom
+mask-is m ws h = rw (h 0 (omega arith), h 1 (omega arith), h 2 (omega arith), h 3 (omega arith), h 4 (omega arith), h 5 (omega arith), h 6 (omega arith), h 7 (omega arith), add-zero (cond (isTied 7 ws) 128 0))
 
--- the tied variables are those of the TIEDs
-pub ties-after : (limit : ℕ) (free : List Bool) (cs : List Command) → draftAfter limit free emptyDraft cs .outline .ties ≡ tiesOf (gatherAll cs .tied)
-unfolding emptyDraft tiesOf
-ties-after limit free cs =
-    let n : length (draftAfter limit free emptyDraft cs .outline .ties) ≡ 8 = ties-length limit free emptyDraft cs in
-    ext-getD false (draftAfter limit free emptyDraft cs .outline .ties) (tiesOf (gatherAll cs .tied)) n
-    (λ i h. ties-at limit free emptyDraft cs i (omega arith) ∙ ap (λ b. b || isTied i (gatherAll cs .tied)) (getD-replicate 8 i false false (omega arith)) ∙ sym (tied-entry (gatherAll cs .tied) i (omega arith)))
+-- the mask is that of the TIEDs
+pub mask-after : (limit : ℕ) (free : List Bool) (cs : List Command) → maskOf (draftAfter limit free emptyDraft cs .outline .ties) ≡ maskFrom (gatherAll cs .tied) 0 8
+unfolding emptyDraft
+mask-after limit free cs =
+    mask-is (draftAfter limit free emptyDraft cs .outline .ties) (gatherAll cs .tied)
+    (λ w h. ties-at limit free emptyDraft cs w h ∙ ap (λ b. b || isTied w (gatherAll cs .tied)) (getD-replicate 8 w false false h))

@@ -1,7 +1,7 @@
 -- What the reader of a formula answers.
-use Prim.Native.Nat.{ℕ}
+use Prim.Native.Nat.{ℕ, _+_}
 use mathlib.Core.Bool.{Bool, false, cond}
-use mathlib.Core.List.{List, [], _∷_, map}
+use mathlib.Core.List.{List, map}
 use lib.Dec.{ltb}
 use lib.ListN.{length, getD, replicate}
 use Rattle.base.specs.Lists.{pad}
@@ -15,25 +15,26 @@ use Rattle.formula_reader.specs.declared.Verdict.the-variants.{Accepted,
 use Rattle.formula_reader.specs.declared.FormulaReading.{FormulaReading}
 use Rattle.formula.specs.Formula.{State, Formula}
 use Rattle.formula.specs.Encode.{kindByte}
-use Rattle.formula.specs.Lookup.{isTied, stepTable}
+use Rattle.formula.specs.Lookup.{stepTable, tiedMask}
 use Rattle.formula.specs.Read.{Reading, accepted, refused}
 
--- whether each of the 8 variables is tied
-unfoldable pub tiesOf : List ℕ → List Bool
-tiesOf ws = isTied 0 ws ∷ isTied 1 ws ∷ isTied 2 ws ∷ isTied 3 ws ∷ isTied 4 ws ∷ isTied 5 ws ∷ isTied 6 ws ∷ isTied 7 ws ∷ []
+-- the marked ones of 8 variables as a mask, bit v for variable v
+unfoldable pub maskOf : List Bool → ℕ
+maskOf m =
+    cond (getD m 0 false) 1 0 + (cond (getD m 1 false) 2 0 + (cond (getD m 2 false) 4 0 + (cond (getD m 3 false) 8 0 + (cond (getD m 4 false) 16 0 + (cond (getD m 5 false) 32 0 + (cond (getD m 6 false) 64 0 + cond (getD m 7 false) 128 0))))))
 
 -- the kinds of the states, 0 where there is none
 unfoldable pub kindsOf : List State → List ℕ
 kindsOf xs = pad 16 0 (map (λ (x : State). kindByte (x .kind)) xs)
 
--- the verdict, and of an accepted formula its number of states, their kinds, where its steps begin, its tied variables
+-- the verdict, and of an accepted formula its number of states, their kinds, where its steps begin, the mask of its tied variables
 unfoldable pub answerOf : Reading → FormulaReading
-answerOf (accepted f) = record { verdict = Accepted; states = length (f .states); kinds = kindsOf (f .states); table = stepTable f; ties = tiesOf (f .tied) }
-answerOf (refused r) = record { verdict = Refused r; states = 0; kinds = replicate 16 0; table = replicate 128 0; ties = replicate 8 false }
+answerOf (accepted f) = record { verdict = Accepted; states = length (f .states); kinds = kindsOf (f .states); table = stepTable f; tied = tiedMask f }
+answerOf (refused r) = record { verdict = Refused r; states = 0; kinds = replicate 16 0; table = replicate 128 0; tied = 0 }
 
 -- the answer of an accepted formula, from what was gathered of it
 abbrev pub acceptedWith : Draft → FormulaReading
-acceptedWith d = record { verdict = Accepted; states = d .summary .states; kinds = d .outline .kinds; table = d .outline .table; ties = d .outline .ties }
+acceptedWith d = record { verdict = Accepted; states = d .summary .states; kinds = d .outline .kinds; table = d .outline .table; tied = maskOf (d .outline .ties) }
 
 -- after END: an absent state, a dead start, an unbound variable, in this order
 unfoldable pub judgedWith : Draft → Found → FormulaReading

@@ -47,14 +47,18 @@ pub record Within (s : Counts) (g : Edges) : Type 0 where
   pub least : s .steps ≤ g .count
   pub some : 0 < s .steps → 0 < s .states
 
+-- the summary after one more test or bind
+abbrev pub clauseMore : Counts → Counts
+clauseMore s = record { tied = s .tied; states = s .states; last = s .last; steps = s .steps; clauses = s .clauses + 1; guarded = s .guarded }
+
 -- the summary after one more command
 abbrev pub advanceBy : Counts → Kept → Counts
 advanceBy s (Tied v) = record { tied = s .tied + 1; states = s .states; last = s .last; steps = s .steps; clauses = s .clauses; guarded = s .guarded }
 advanceBy s (State k) = record { tied = s .tied; states = s .states + 1; last = ltb 1 k; steps = 0; clauses = 0; guarded = false }
 advanceBy s (Step t) = record { tied = s .tied; states = s .states; last = s .last; steps = s .steps + 1; clauses = 0; guarded = false }
-advanceBy s Test = record { tied = s .tied; states = s .states; last = s .last; steps = s .steps; clauses = s .clauses + 1; guarded = s .guarded }
-advanceBy s (Testv v) = record { tied = s .tied; states = s .states; last = s .last; steps = s .steps; clauses = s .clauses + 1; guarded = s .guarded }
-advanceBy s (Bind v) = record { tied = s .tied; states = s .states; last = s .last; steps = s .steps; clauses = s .clauses + 1; guarded = s .guarded }
+advanceBy s Test = clauseMore s
+advanceBy s (Testv v) = clauseMore s
+advanceBy s (Bind v) = clauseMore s
 advanceBy s (Guard p q) = record { tied = s .tied; states = s .states; last = s .last; steps = s .steps; clauses = s .clauses; guarded = true }
 
 -- the outline after one more command, at `at`

@@ -2,17 +2,17 @@
 use refusal::File;
 use refusal::Refusal;
 ghost use mathlib.Core.Path.{_≡_};
-ghost use mathlib.Core.Bool.{true, false, not, _&&_};
+ghost use mathlib.Core.Bool.{true, false, not, _&&_, cond};
 ghost use lib.Dec.{ltb};
 ghost use mathlib.Core.List.{List};
 ghost use Rattle.event_log.specs.Log.{Kind};
 ghost use Prim.Native.Nat.{_+_, _-_, _^_, _≤_, _<_};
 ghost use lib.ListN.{length, getD, set};
 ghost use Rattle.formula.specs.Read.{exprOpcode, readExpr, opcode, next, refused, readFormula};
-ghost use Rattle.formula_reader.specs.Answer.{answerOf, acceptedWith, judgedWith, refusalIn};
+ghost use Rattle.formula_reader.specs.Answer.{answerOf, maskOf, acceptedWith, judgedWith, refusalIn};
 ghost use Rattle.formula_reader.specs.Reach.{markBy, roundFrom, reachOf, Free, Stored};
-ghost use Rattle.formula_reader.specs.Scan.{Counted, Ready, Within, advanceBy, outlined, edged, foundBy, markAt, marksOf, added, emptyDraft, finishedWith, Scanned};
-ghost use Rattle.formula_reader.specs.Take.{opcodeShape, allowedIn, roomIn, operandsAt, stateAt, stepAt, tiedAt, testAt, testvAt, bindAt, guardAt, nextAt, nextShape, told};
+ghost use Rattle.formula_reader.specs.Scan.{Counted, Ready, Within, clauseMore, advanceBy, outlined, edged, foundBy, markAt, marksOf, added, emptyDraft, finishedWith, Scanned};
+ghost use Rattle.formula_reader.specs.Take.{opcodeShape, allowedIn, roomIn, operandsAt, stateAt, stepAt, tiedAt, testAt, testvAt, bindAt, guardAt, takenAt, nextAt, nextShape, told};
 ghost use Rattle.formula_reader.specs.Prefix.{takes, over, place, first, joined, command, constHead, varHead, countHead, exprHead, shape};
 
 // What an expression command takes: a value, a variable, a state, or a number of operands.
@@ -490,6 +490,34 @@ fn take_guard(part: &[u8], at: usize, marks: [bool; 8], limit: usize) -> Next
     }
 }
 
+// A command that is allowed and has room, by the byte that names it: taken, END, or its refusal.
+fn take_command(
+    op: Opcode,
+    part: &[u8],
+    at: usize,
+    fields: usize,
+    marks: [bool; 8],
+    limit: usize,
+) -> Next
+    requires { ⌜ (0 < length (now part)) × (at + length (now part) < 2 ^ 64) ⌝ }
+    ensures { λ r. ⌜ r ≡ takenAt marks limit fields (now (part .entry)) at op ⌝ }
+{
+    match op {
+        Opcode::End => Next::End,
+        Opcode::State => take_state(part, at),
+        Opcode::Step => take_step(part, at),
+        Opcode::Test => take_test(part, at, fields),
+        Opcode::Testv => take_testv(part, at, fields),
+        Opcode::Bind => take_bind(part, at, fields),
+        Opcode::Guard => take_guard(part, at, marks, limit),
+        Opcode::Tied => take_tied(part, at),
+        Opcode::Other => Next::Bad(Refusal::Foreign {
+            file: File::Formula,
+            place: at,
+        }),
+    }
+}
+
 // The next command at `at`, where the part begins, END, or the refusal.
 fn next_command(
     part: &[u8],
@@ -521,20 +549,7 @@ fn next_command(
             place: at,
         });
     }
-    match op {
-        Opcode::End => Next::End,
-        Opcode::State => take_state(part, at),
-        Opcode::Step => take_step(part, at),
-        Opcode::Test => take_test(part, at, fields),
-        Opcode::Testv => take_testv(part, at, fields),
-        Opcode::Bind => take_bind(part, at, fields),
-        Opcode::Guard => take_guard(part, at, marks, limit),
-        Opcode::Tied => take_tied(part, at),
-        Opcode::Other => Next::Bad(Refusal::Foreign {
-            file: File::Formula,
-            place: at,
-        }),
-    }
+    take_command(op, part, at, fields, marks, limit)
 }
 
 // Whether a formula is accepted.
@@ -580,6 +595,16 @@ struct Scan {
     draft: Draft,
 }
 
+// The summary after one more test or bind.
+fn one_clause_more(s: Summary) -> Summary
+    requires { ⌜ s .clauses ≤ 8 ⌝ }
+    ensures { λ r. ⌜ r ≡ clauseMore s ⌝ }
+{
+    let mut n = s;
+    n.clauses = s.clauses + 1;
+    n
+}
+
 // The summary after one more command.
 fn advance(s: Summary, c: Command) -> Summary
     requires { ⌜ Counted s ⌝ }
@@ -607,18 +632,9 @@ fn advance(s: Summary, c: Command) -> Summary
             clauses: 0,
             guarded: false,
         },
-        Command::Test => {
-            n.clauses = s.clauses + 1;
-            n
-        }
-        Command::Testv(_v) => {
-            n.clauses = s.clauses + 1;
-            n
-        }
-        Command::Bind(_v) => {
-            n.clauses = s.clauses + 1;
-            n
-        }
+        Command::Test => one_clause_more(s),
+        Command::Testv(_v) => one_clause_more(s),
+        Command::Bind(_v) => one_clause_more(s),
         Command::Guard { count: _c, var: _v } => {
             n.guarded = true;
             n
@@ -942,13 +958,13 @@ fn free_of(g: Edges) -> [bool; 128]
     free
 }
 
-// The verdict, and of an accepted formula its number of states, their kinds (0 ordinary, 1 committed, 2 accept, 3 reject), where its steps begin (step k of state s at s * 8 + k, 0 where there is none) and its tied variables.
+// The verdict, and of an accepted formula its number of states, their kinds (0 ordinary, 1 committed, 2 accept, 3 reject), where its steps begin (step k of state s at s * 8 + k, 0 where there is none) and the mask of its tied variables (bit v set where variable v is tied).
 pub struct FormulaReading {
     pub verdict: Verdict,
     pub states: usize,
     pub kinds: [u32; 16],
     pub table: [usize; 128],
-    pub ties: [bool; 8],
+    pub tied: u32,
 }
 
 // The answer of a refused formula.
@@ -960,7 +976,7 @@ fn refused_with(r: Refusal) -> FormulaReading
         states: 0,
         kinds: [0u32; 16],
         table: [0usize; 128],
-        ties: [false; 8],
+        tied: 0,
     }
 }
 
@@ -977,6 +993,25 @@ fn refusal_in(v: Verdict) -> Refusal
     }
 }
 
+// The bit where the flag is set, else 0.
+fn bit_if(flag: bool, bit: u32) -> u32
+    ensures { λ r. ⌜ (r ≡ cond flag bit 0) × (r ≤ bit) ⌝ }
+{
+    if flag {
+        return bit;
+    }
+    0
+}
+
+// The tied variables as a mask: bit v for variable v.
+fn mask_of(ties: [bool; 8]) -> u32
+    ensures { λ r. ⌜ r ≡ maskOf ties ⌝ }
+{
+    let high = bit_if(ties[4], 16)
+        + (bit_if(ties[5], 32) + (bit_if(ties[6], 64) + bit_if(ties[7], 128)));
+    bit_if(ties[0], 1) + (bit_if(ties[1], 2) + (bit_if(ties[2], 4) + (bit_if(ties[3], 8) + high)))
+}
+
 // The answer of an accepted formula, from what was gathered of it.
 fn accepted_with(d: Draft) -> FormulaReading
     ensures { λ a. ⌜ a ≡ acceptedWith d ⌝ }
@@ -991,7 +1026,7 @@ fn accepted_with(d: Draft) -> FormulaReading
         states: s.states,
         kinds,
         table,
-        ties,
+        tied: mask_of(ties),
     }
 }
 

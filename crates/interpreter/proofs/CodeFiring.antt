@@ -11,11 +11,12 @@ use lib.Seq.{set-out}
 use lib.Dec.{ltb}
 use Rattle.base.specs.Lists.{All}
 use Rattle.event_log.specs.Log.{Kind}
-use Rattle.formula.specs.Formula.{Expr, Clause, Step}
+use Rattle.formula.specs.Formula.{Expr, Clause, Step, Formula}
 use Rattle.formula.specs.Encode.{CLAUSE, encodeExpr, encodeClause, encodeCommand, guardCommands, stepCommands}
 use Rattle.interpreter.specs.declared.Configuration.{Configuration}
 use Rattle.interpreter.specs.declared.Evaluated.{Evaluated}
 use Rattle.interpreter.specs.declared.Walked.{Walked}
+use Rattle.formula.specs.Lookup.{stepPlace, guardPlace}
 use Rattle.formula.specs.Correct.{Exists, Variable, GuardFits, StepFits}
 use Rattle.machine.specs.Configuration.{addOne, total, Valid}
 use Rattle.machine.specs.Guard.{truth, guardHolds}
@@ -25,7 +26,7 @@ use Rattle.interpreter.specs.Bytes.{evaluated, walked, raised, guardAt, 
 use Rattle.machine.proofs.Configurations.{counter-le-total, add-one-set}
 use Rattle.machine.proofs.Walk.{fires-walk}
 use Rattle.interpreter.proofs.CodeGuard.{rest, rest-drop, evaluate-encode}
-use Rattle.interpreter.proofs.CodeStep.{byte-from, first-byte, drop-more, walkOf, walk-encode, walk-ends, clauses-length, Agrees, Along, along}
+use Rattle.interpreter.proofs.CodeStep.{byte-from, first-byte, drop-more, walkOf, walk-encode, walk-at, walk-ends, clauses-length, Agrees, Along, along}
 
 pub raised-out : (counters : List ℕ) (s : ℕ) → length counters ≡ 16 → 16 ≤ s → counters ≡ raised counters s
 unfolding raised
@@ -157,6 +158,12 @@ module _ (fields states : ℕ) (f : List ℕ) (at : ℕ) (s : Step) (h : StepAt 
   pub walked-ends : (c : Configuration) (rising : List Bool) (event : List ℕ) → drop ((walked f at c rising event) .at) f ≡ guardBytes (s .guard) ++ h .after
   unfolding begun
   walked-ends c rising event = ap (λ (w : Walked). drop (w .at) f) (walked-encode c rising event) ∙ walk-ends f (c .values) rising event (begun at c) (s .clauses) (guardBytes (s .guard) ++ h .after) behind-step
+
+  -- The walk finds the guard of step k of state i: it ends at the guard's place.
+  pub walked-place : (formula : Formula) (i k : ℕ) → at ≡ stepPlace formula i k → (c : Configuration) (rising : List Bool) (event : List ℕ) → (walked f at c rising event) .at ≡ guardPlace formula i k s
+  unfolding begun guardPlace
+  walked-place formula i k e c rising event =
+      omega (arith, e, ap (λ (w : Walked). w .at) (walked-encode c rising event), walk-at f (c .values) rising event (begun at c) (s .clauses))
 
   -- the guard that begins at an offset has the value of the step's guard
   pub guard-encode : (g : Option Expr) (p : ℕ) (values counters : List ℕ) → drop p f ≡ guardBytes g ++ h .after → All (Exists fields states) (guardCommands g) → GuardFits g → guardAt f p values counters ≡ guardHolds values counters g

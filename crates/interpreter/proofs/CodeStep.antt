@@ -89,7 +89,8 @@ module _ (f prior : List ℕ) (rising : List Bool) (event : List ℕ) where
       let d : drop ((clauseOf w x) .at) f ≡ flatMap encodeClause ks ++ l = ap (λ i. drop i f) (clause-at w x) ∙ drop-more f (encodeClause x) (flatMap encodeClause ks ++ l) (w .at) h′ in
       rw (t, clause-encode m n w x (flatMap encodeClause ks ++ l) h′ (v .0)) (walk-encode m n fuel (clauseOf w x) ks l d stop (v .1) (omega arith))
 
-  walk-at : (w : Walked) (ks : List Clause) → (walkOf w ks) .at ≡ w .at + length (flatMap encodeClause ks)
+  -- how far it goes
+  pub walk-at : (w : Walked) (ks : List Clause) → (walkOf w ks) .at ≡ w .at + length (flatMap encodeClause ks)
   unfolding flatMap
   walk-at w [] = omega arith
   walk-at w (k ∷ ks) = omega (arith, walk-at (clauseOf w k) ks, clause-at w k, length-append (encodeClause k) (flatMap encodeClause ks))

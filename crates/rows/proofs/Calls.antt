@@ -1,11 +1,12 @@
 -- The checks of a call, one after the other: what each refusal leaves, and what the readers hand on.
 use Prim.Native.Nat.{ℕ, zero, suc, _*_, _<_, _≤_}
 use mathlib.Core.Path.{_≡_, refl, ap, sym, _∙_}
-use mathlib.Core.Bool.{false}
+use mathlib.Core.Bool.{Bool, true, false, cond}
 use mathlib.Core.List.{List, [], _∷_}
 use native.Mathlib.Omega.{arith}
 use borrow.Author.Tests.{lt-ltb, le-ltb}
 use lib.ListN.{length, getD}
+use lib.Dec.{eqb}
 use Rattle.base.specs.Lists.{Bytes}
 use Rattle.refusal.specs.declared.Refusal.{Refusal}
 use Rattle.refusal.specs.declared.Refusal.the-variants.{Short}
@@ -17,7 +18,8 @@ use Rattle.event_log.specs.declared.LogReading.{LogReading}
 use Rattle.event_log.specs.Read as LogRead
 use Rattle.event_log.proofs.Accepted.{accepted-is-encoding}
 use Rattle.formula.specs.Formula.{Formula}
-use Rattle.formula.specs.Lookup.{isTied}
+use Rattle.formula.specs.Lookup.{isTied, tiedMask}
+use Rattle.formula.proofs.Ties.{mask-bit}
 use Rattle.formula.specs.Read as FormulaRead
 use Rattle.formula.proofs.Reading.{accepted-correct}
 use Rattle.runs.specs.Search.{search}
@@ -27,11 +29,12 @@ use Rattle.analysis.specs.declared.Outcome.{Outcome}
 use Rattle.analysis.specs.declared.Outcome.the-variants.{Refused}
 use Rattle.formula_reader.specs.declared.Verdict.the-variants as FormulaVerdict
 use Rattle.formula_reader.specs.declared.FormulaReading.{FormulaReading}
-use Rattle.formula_reader.specs.Answer.{answerOf as formulaAnswer, kindsOf, tiesOf}
+use Rattle.formula_reader.specs.Answer.{answerOf as formulaAnswer, kindsOf}
 use Rattle.engine.proofs.Calls.{LogTaken, FormulaTaken, log-refused, log-taken, formula-refused, formula-taken}
 use Rattle.analysis.specs.Rows.{rowsFrom}
 use Rattle.analysis.specs.Analysis.{Analysed, writtenInto, checked, withFormula, analysis}
-use Rattle.rows.specs.Starts.{Given, wordsPass, passesFormula, passes, Leaves}
+use Rattle.rows.specs.Starts.{bitsOf, Given, wordsPass, passesFormula, passes, Leaves}
+use Rattle.rows.proofs.Filling.{bits-length, bits-at}
 
 -- refusal 10 for work words, 10 for rows, and no refusal
 module _ (g : Log) (fm : Formula) (work rows : List ℕ) where
@@ -52,18 +55,13 @@ module _ (g : Log) (fm : Formula) (work rows : List ℕ) where
       rw (le-ltb (length work) 192 h, le-ltb (length rows) (12 * length (g .events)) (rw e at k), ← s)
       (record { outcome = ap (λ (x : Analysed). x .outcome) a; rows = ap (λ (x : Analysed). x .rows) a; work = λ q. let z : _≡_ {A = ℕ} 0 1 = cc in absurd (omega arith) })
 
--- the flag of a variable says whether it is tied
-tie-at : (ws : List ℕ) (v : ℕ) → v < 8 → getD (tiesOf ws) v false ≡ isTied v ws
-unfolding tiesOf
-tie-at ws zero h = refl
-tie-at ws (suc zero) h = refl
-tie-at ws (suc (suc zero)) h = refl
-tie-at ws (suc (suc (suc zero))) h = refl
-tie-at ws (suc (suc (suc (suc zero)))) h = refl
-tie-at ws (suc (suc (suc (suc (suc zero))))) h = refl
-tie-at ws (suc (suc (suc (suc (suc (suc zero)))))) h = refl
-tie-at ws (suc (suc (suc (suc (suc (suc (suc zero))))))) h = refl
-tie-at ws (suc (suc (suc (suc (suc (suc (suc (suc v)))))))) h = absurd (omega arith)
+-- the bit of a variable says whether it is tied
+bit-back : (b : Bool) → eqb (cond b 1 0) 1 ≡ b
+bit-back true = refl
+bit-back false = refl
+
+tie-at : (fm : Formula) (v : ℕ) → v < 8 → getD (bitsOf 8 (tiedMask fm)) v false ≡ isTied v (fm .tied)
+tie-at fm v h = bits-at 8 v (tiedMask fm) h ∙ rw (mask-bit fm v h) (bit-back (isTied v (fm .tied)))
 
 -- the formula is refused
 pub refused-formula : (g : Log) (f work rows : List ℕ) (r : FormulaReading) (why : Refusal) → r ≡ formulaAnswer (FormulaRead.readFormula (g .fields) f) → r .verdict ≡ FormulaVerdict.Refused why
@@ -74,12 +72,12 @@ refused-formula g f work rows r why e h =
     rw q (record { outcome = refl; rows = refl; work = λ p. refl })
 
 -- the formula is accepted
-module _ (g : Log) (l f : List ℕ) (log : LogReading) (r : FormulaReading) (bytes : Bytes f) (read : log ≡ LogRead.answerOf (LogRead.accepted g)) (here : l ≡ LogEncode.encode g) (ok : LogCorrect.Correct g) (e : r ≡ formulaAnswer (FormulaRead.readFormula (g .fields) f)) (h : r .verdict ≡ FormulaVerdict.Accepted) where
+module _ (g : Log) (l f : List ℕ) (log : LogReading) (r : FormulaReading) (bytes : Bytes f) (read : log ≡ LogRead.answerOf (LogRead.accepted g)) (here : l ≡ LogEncode.encode g) (ok : LogCorrect.Correct g) (e : r ≡ formulaAnswer (FormulaRead.readFormula (g .fields) f)) (h : r .verdict ≡ FormulaVerdict.Accepted) (tied : List Bool) (marks : tied ≡ bitsOf 8 (r .tied)) where
   taken : FormulaTaken (FormulaRead.readFormula (g .fields) f)
   taken = formula-taken (FormulaRead.readFormula (g .fields) f) (ap (λ (a : FormulaReading). a .verdict) (sym e) ∙ h)
 
-  given : Given g (taken .formula) l log f (r .table) (r .kinds) (r .ties)
-  unfolding formulaAnswer kindsOf tiesOf LogRead.answerOf
+  given : Given g (taken .formula) l log f (r .table) (r .kinds) tied
+  unfolding formulaAnswer kindsOf LogRead.answerOf
   given =
       let a : r ≡ formulaAnswer (FormulaRead.accepted (taken .formula)) = e ∙ ap formulaAnswer (taken .is) in
       let c = accepted-correct (g .fields) f (taken .formula) bytes (taken .is) in
@@ -89,12 +87,12 @@ module _ (g : Log) (l f : List ℕ) (log : LogReading) (r : FormulaReading) (byt
         fields-are = ap (λ (x : LogReading). x .fields) read;
         events-are = ap (λ (x : LogReading). x .events) read;
         first-is = ap (λ (x : LogReading). x .first) read;
-        tied-8 = ap (λ (x : FormulaReading). length (x .ties)) a;
-        tied-are = λ v k. ap (λ (x : FormulaReading). getD (x .ties) v false) a ∙ tie-at (taken .formula .tied) v k;
+        tied-8 = ap length marks ∙ bits-length 8 (r .tied);
+        tied-are = λ v k. ap (λ bs. getD bs v false) marks ∙ ap (λ (x : FormulaReading). getD (bitsOf 8 (x .tied)) v false) a ∙ tie-at (taken .formula) v k;
       }
 
   pub accepted-formula : (work work-after rows rows-after : List ℕ) (o : Outcome)
-      → ((fm : Formula) → Given g fm l log f (r .table) (r .kinds) (r .ties) → Leaves (checked g fm (length work) rows) (wordsPass (length work) (length rows) (length (g .events))) work work-after rows-after o)
+      → ((fm : Formula) → Given g fm l log f (r .table) (r .kinds) tied → Leaves (checked g fm (length work) rows) (wordsPass (length work) (length rows) (length (g .events))) work work-after rows-after o)
       → Leaves (withFormula g (FormulaRead.readFormula (g .fields) f) (length work) rows) (passesFormula g (FormulaRead.readFormula (g .fields) f) (length work) (length rows)) work work-after rows-after o
   accepted-formula work work-after rows rows-after o go = rw (taken .is) (go (taken .formula) given)
 

@@ -4,7 +4,7 @@ use mathlib.Core.Path.{_≡_, refl, ap, sym, _∙_}
 use mathlib.Core.Bool.{Bool, true, false, cond}
 use mathlib.Core.List.{List, [], _∷_, _++_, append-nil, append-assoc}
 use native.Mathlib.Numerals.{add-one}
-use native.Mathlib.Nat.{add-assoc, pow-suc}
+use native.Mathlib.Nat.{add-assoc, pow-suc, pow-succ', div-div-eq-div-mul}
 use native.Mathlib.Omega.{arith}
 use lib.ListN.{length, getD, take, drop, set, drop-of-length-le}
 use lib.Seq.{take-all, take-suc-set, drop-cons}
@@ -64,6 +64,18 @@ bits-mask (false ∷ hs) =
     let a : (0 + 2 * mask hs) % 2 ≡ 0 = omega arith in
     let b : (0 + 2 * mask hs) / 2 ≡ mask hs = omega arith in
     rw (a, b, bits-mask hs)
+
+-- a mask's bits by number
+pub bits-length : (n m : ℕ) → length (bitsOf n m) ≡ n
+unfolding bitsOf
+bits-length zero m = refl
+bits-length (suc n) m = ap suc (bits-length n (m / 2))
+
+pub bits-at : (n v m : ℕ) → v < n → getD (bitsOf n m) v false ≡ eqb (m / 2 ^ v % 2) 1
+unfolding bitsOf
+bits-at zero v m h = absurd (omega arith)
+bits-at (suc n) zero m h = let e : m / 1 ≡ m = omega arith in ap (λ i. eqb (i % 2) 1) (sym e)
+bits-at (suc n) (suc v) m h = bits-at n v (m / 2) (omega arith) ∙ rw (pow-succ' 2 v, ← div-div-eq-div-mul m 2 (2 ^ v))
 
 -- eight elements of a list, written out
 pub eight-from : (l : List ℕ) (a : ℕ) → a + 8 ≤ length l → getD l a 0 ∷ getD l (a + 1) 0 ∷ getD l (a + 2) 0 ∷ getD l (a + 3) 0 ∷ getD l (a + 4) 0 ∷ getD l (a + 5) 0 ∷ getD l (a + 6) 0 ∷ getD l (a + 7) 0 ∷ [] ≡ take 8 (drop a l)

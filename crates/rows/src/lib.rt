@@ -375,7 +375,7 @@ fn with_log(l: &[u8], f: &[u8], log: LogReading, work: &mut [u32], rows: &mut [u
         formula_reader::Verdict::Accepted => {
             let table = formula.table;
             let kinds = formula.kinds;
-            let tied = formula.ties;
+            let tied = held_in(formula.tied);
             with_formula(l, log, f, &table, &kinds, tied, work, rows)
         }
     }

@@ -1,11 +1,10 @@
 -- What a thread may do on an event: its moves are those of a range of steps; and whether it may stay.
 use Prim.Native.Nat.{ℕ, _+_, _-_, _<_}
 use mathlib.Core.Path.{_≡_, refl, ap, sym, _∙_}
-use mathlib.Core.Bool.{Bool, true, false, _&&_, and-true, true≢false, false≢true}
+use mathlib.Core.Bool.{true, false, _&&_, and-true, true≢false, false≢true}
 use mathlib.Core.Option.{Option, none, some}
 use native.Mathlib.Omega.{arith}
 use lib.Dec.{ltb}
-use borrow.Author.Tests.{ltb-true, ltb-false}
 use Rattle.event_log.specs.Log.{Log}
 use Rattle.formula.specs.Formula.{Formula}
 use Rattle.runs.specs.Search as Runs
@@ -16,34 +15,30 @@ use Rattle.machine.specs.Configuration.{Config}
 use Rattle.slots.specs.declared.Thread.{Thread}
 use Rattle.slots.specs.Threads.{trailOf}
 use Rattle.threads.specs.Setting.{Fit, conf, thread}
-use Rattle.threads.specs.Calls.{FiredBy, Fires, Lowest, Chosen}
-use Rattle.threads.specs.declared.Move.{Move}
+use Rattle.interpreter.proofs.CodeMachine as Code
+use Rattle.interpreter.proofs.CodeMachine.{isFired}
+use Rattle.threads.specs.Calls.{Fires, Lowest, Chosen}
 use Rattle.threads.proofs.Steps.{begun-steps}
 
 module _ (g : Log) (fm : Formula) (t : Thread) (n : ℕ) where
   -- ---- the lowest step that fires
 
-  quiet-more : (k : ℕ) (m : Move) → FiredBy (fireAt g fm (conf t) n k) t m → m .fires ≡ false → fireAt g fm (conf t) n k ≡ none
-  quiet-more k m h e = by (fireAt g fm (conf t) n k) refl h
+  silent : (k : ℕ) → isFired (fireAt g fm (conf t) n k) ≡ false → fireAt g fm (conf t) n k ≡ none
+  silent k e = by (fireAt g fm (conf t) n k) e
     where
-      by : (o : Option Config) → fireAt g fm (conf t) n k ≡ o → FiredBy o t m → fireAt g fm (conf t) n k ≡ none
-      by none q x = q
-      by (some d) q x = absurd (false≢true (sym e ∙ x .fires))
+      by : (o : Option Config) → isFired o ≡ false → o ≡ none
+      by none q = refl
+      by (some d) q = absurd (true≢false q)
 
-  -- no step below k fires: nor does one below k + 1, where step k is silent
-  pub quiet-below : (k : ℕ) (m : Move) → ((j : ℕ) → j < k → fireAt g fm (conf t) n j ≡ none) → FiredBy (fireAt g fm (conf t) n k) t m → m .fires ≡ false → (j : ℕ) → j < k + 1 → fireAt g fm (conf t) n j ≡ none
-  quiet-below k m q h e j l = by (ltb j k) refl
+  firing : (k : ℕ) → isFired (fireAt g fm (conf t) n k) ≡ true → Fires g fm (conf t) n k
+  firing k e = by (fireAt g fm (conf t) n k) refl e
     where
-      by : (b : Bool) → ltb j k ≡ b → fireAt g fm (conf t) n j ≡ none
-      by true p = q j (ltb-true j k p)
-      by false p = let z : j ≡ k = omega (arith, ltb-false j k p, l) in ap (λ i. fireAt g fm (conf t) n i) z ∙ quiet-more k m h e
+      by : (o : Option Config) → fireAt g fm (conf t) n k ≡ o → isFired o ≡ true → Fires g fm (conf t) n k
+      by none q x = absurd (false≢true x)
+      by (some d) q x = record { left = d; is = q }
 
-  pub lowest-found : (k : ℕ) (m : Move) → ((j : ℕ) → j < k → fireAt g fm (conf t) n j ≡ none) → FiredBy (fireAt g fm (conf t) n k) t m → m .fires ≡ true → Lowest g fm (conf t) n k
-  lowest-found k m q h e = record { quiet = q; fires = λ l. by (fireAt g fm (conf t) n k) refl h }
-    where
-      by : (o : Option Config) → fireAt g fm (conf t) n k ≡ o → FiredBy o t m → Fires g fm (conf t) n k
-      by none p x = absurd (true≢false (sym e ∙ x))
-      by (some d) p x = record { left = d; is = p }
+  pub lowest-found : (k : ℕ) → Code.Lowest (λ j. isFired (fireAt g fm (conf t) n j)) k → Lowest g fm (conf t) n k
+  lowest-found k low = record { quiet = λ j l. silent j (low .before j l); fires = λ l. firing k (low .here l) }
 
   -- ---- what may be taken
 

@@ -7,7 +7,7 @@ ghost use Prim.Native.Nat.{_+_, _*_, _≤_, _<_};
 ghost use lib.Dec.{leb, eqb};
 ghost use lib.ListN.{length, getD};
 ghost use Rattle.threads.specs.Event.{EndingIs, AdvancedIs};
-ghost use Rattle.threads.specs.Calls.{MovedIs, LowestIs, ChoiceIs, BetterIs, EndedIs, Grown, WaitsIs, OfferIs, OfferMoveIs, OfferMovesIs, StayIs, OfferAllIs};
+ghost use Rattle.threads.specs.Calls.{MovedIs, ChoiceIs, BetterIs, EndedIs, Grown, WaitsIs, OfferIs, OfferMoveIs, OfferMovesIs, StayIs, OfferAllIs};
 
 // The least thread so far, if one was found.
 pub struct Best {
@@ -77,24 +77,6 @@ fn moved(f: &[u8], table: &[usize], t: Thread, n: u32, event: [u32; 8], k: u32) 
     }
 }
 
-// The number of the lowest numbered step that fires, 8 if none does.
-fn lowest(f: &[u8], table: &[usize], t: Thread, event: [u32; 8]) -> u32
-    ensures { λ r. ⌜ LowestIs (now (f .entry)) (now (table .entry)) t event r ⌝ }
-{
-    let mut k: u32 = 0;
-    let number = 'search: loop {
-        if 8 <= k {
-            break 'search 8;
-        }
-        let fired = step::fires_at(f, table, t, event, k);
-        if fired.fires {
-            break 'search k;
-        }
-        k += 1;
-    };
-    number
-}
-
 // What a thread may do on an event: in a committed state the lowest numbered step that fires is taken; else each step, and
 // once the first step is taken they may be passed over.
 fn choice_of(f: &[u8], table: &[usize], kinds: &[u32], t: Thread, event: [u32; 8]) -> Choice
@@ -102,7 +84,7 @@ fn choice_of(f: &[u8], table: &[usize], kinds: &[u32], t: Thread, event: [u32; 8
 {
     let begun = 0 < t.steps;
     if is_committed(kinds, t.state) {
-        let k = lowest(f, table, t, event);
+        let k = step::lowest_at(f, table, t, event);
         if k < 8 {
             return Choice {
                 from: k,

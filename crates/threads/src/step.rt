@@ -5,7 +5,7 @@ use slots::Thread;
 ghost use mathlib.Core.Path.{_≡_};
 ghost use Rattle.interpreter.specs.Bytes.{configOf};
 ghost use Rattle.threads.specs.Setting.{conf};
-ghost use Rattle.threads.specs.Calls.{FiresIs, HopefulIs};
+ghost use Rattle.threads.specs.Calls.{FiresIs, LowestIs, HopefulIs};
 
 // The configuration of a thread.
 fn configuration_of(t: Thread) -> Configuration
@@ -57,6 +57,14 @@ pub fn fires_at(f: &[u8], table: &[usize], t: Thread, event: [u32; 8], k: u32) -
         fires: fired.fires,
         thread: thread_in(t, left),
     }
+}
+
+// The number of the lowest numbered step of a thread's state that fires on an event, 8 if none does.
+pub fn lowest_at(f: &[u8], table: &[usize], t: Thread, event: [u32; 8]) -> u32
+    ensures { λ r. ⌜ LowestIs (now (f .entry)) (now (table .entry)) t event r ⌝ }
+{
+    let k = interpreter::steps::lowest(f, table, configuration_of(t), event);
+    k as u32
 }
 
 // Whether some step of a thread's state is not expired after an event.

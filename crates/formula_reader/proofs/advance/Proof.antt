@@ -4,6 +4,7 @@ use Rattle.formula_reader.proofs.advance.Statement.{statement}
 use Rattle.formula_reader.proofs.advance.Tie as tie
 use Rattle.formula_reader.proofs.advance.Reads as reads
 use Rattle.formula_reader.proofs.advance.Lts as lts
+use Rattle.formula_reader.proofs.one_clause_more.Reads as one-clause-more-reads
 
 enum-known-c : tie.Need-enum-known-c
 enum-known-c c = search needs
@@ -26,20 +27,20 @@ add-t14 c = search needs
 enum-told : tie.Need-enum-told
 enum-told c = search needs
 
-add-n-2 : tie.Need-add-n-2
-add-n-2 c = search needs
+one-clause-more-requires : tie.Need-one-clause-more-requires
+one-clause-more-requires c κs = search needs
 
 enum-known-c-4 : tie.Need-enum-known-c-4
 enum-known-c-4 c = search needs
 
-add-n-3 : tie.Need-add-n-3
-add-n-3 c = search needs
+one-clause-more-requires-2 : tie.Need-one-clause-more-requires-2
+one-clause-more-requires-2 c κs = search needs
 
 enum-known-c-5 : tie.Need-enum-known-c-5
 enum-known-c-5 c = search needs
 
-add-n-4 : tie.Need-add-n-4
-add-n-4 c = search needs
+one-clause-more-requires-3 : tie.Need-one-clause-more-requires-3
+one-clause-more-requires-3 c κs = search needs
 
 enum-known-c-6 : tie.Need-enum-known-c-6
 enum-known-c-6 c = search needs
@@ -54,13 +55,13 @@ returns-3 : tie.Need-returns-3
 returns-3 c = rw (c .before .before .c3 .given .1)
 
 returns-4 : tie.Need-returns-4
-returns-4 c = rw (c .before .enum-told .given .1)
+returns-4 c = rw (c .before .enum-told .given .1) (c .one-clause-more .ensures)
 
 returns-5 : tie.Need-returns-5
-returns-5 c = rw (c .before .before .c4 .given .1)
+returns-5 c = rw (c .before .before .c4 .given .1) (c .one-clause-more2 .ensures)
 
 returns-6 : tie.Need-returns-6
-returns-6 c = rw (c .before .before .c5 .given .1)
+returns-6 c = rw (c .before .before .c5 .given .1) (c .one-clause-more3 .ensures)
 
 returns-7 : tie.Need-returns-7
 returns-7 c = rw (c .before .c6 .given .1)
@@ -76,11 +77,11 @@ advance-spec =
     enum-known-c-3
     add-t14
     enum-told
-    add-n-2
+    one-clause-more-requires
     enum-known-c-4
-    add-n-3
+    one-clause-more-requires-2
     enum-known-c-5
-    add-n-4
+    one-clause-more-requires-3
     enum-known-c-6
     returns
     returns-2

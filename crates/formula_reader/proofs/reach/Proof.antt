@@ -36,11 +36,13 @@ loop-less c = search needs
 
 loop-again : tie.Need-loop-again Inv-loop μ-loop
 loop-again c =
-    let h : c .before .before .loop .n < 16 = c .before .loop-test .taken in
+    let h : c .before .before .loop .n < 16 = omega (arith, c .before .loop-test .taken) in
     (omega (arith, h), c .before .before .loop .inv .1 ∙ (reach-on (c .before .before .before .before .args .g) (c .before .before .before .before .args .v) (c .before .before .loop .n) (c .before .before .loop .marks) h ∙ ap (reachFrom (c .before .before .before .before .args .g) (c .before .before .before .before .args .v) (16 - (c .before .before .loop .n + 1))) (sym (c .round-of .ensures))))
 
 returns : tie.Need-returns Inv-loop μ-loop
-returns c = sym (c .before .loop .inv .1 ∙ reach-done (c .before .before .before .args .g) (c .before .before .before .args .v) (c .before .loop .n) (c .before .loop .marks) (c .loop-test .left))
+returns c =
+    let h : 16 ≤ c .before .loop .n = omega (arith, c .loop-test .left) in
+    sym (c .before .loop .inv .1 ∙ reach-done (c .before .before .before .args .g) (c .before .before .before .args .v) (c .before .loop .n) (c .before .loop .marks) h)
 
 pub reach-spec : {M : Type 1} → statement M
 reach-spec =

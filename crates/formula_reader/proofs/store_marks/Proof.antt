@@ -42,7 +42,7 @@ loop-less c = search needs
 
 loop-again : tie.Need-loop-again Inv-loop μ-loop
 loop-again c =
-    let h : c .before .loop .s < 16 = c .loop-test .taken in
+    let h : c .before .loop .s < 16 = omega (arith, c .loop-test .taken) in
     (omega (arith, h), stored-on (c .before .before .args .free) (c .before .before .args .v) (c .before .before .args .t3) (c .before .loop .s) (c .before .loop .all) (c .before .before .pre) h (c .before .loop .inv .2) (c .before .loop .inv .1), length-set (c .before .loop .all) (c .before .before .args .v * 16 + c .before .loop .s) (getD (c .before .before .args .t3) (c .before .loop .s) false) ∙ c .before .loop .inv .2)
 
 returns : tie.Need-returns Inv-loop μ-loop

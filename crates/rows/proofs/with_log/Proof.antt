@@ -1,14 +1,19 @@
 -- `rows::with_log` meets its contract: the formula is refused, or handed on.
+use native.Mathlib.Omega.{arith}
 use mathlib.Core.Path.{ap, sym}
+use denote.Ref.{now}
 use Rattle.event_log.specs.Read.{answerOf}
 use Rattle.event_log.specs.declared.LogReading.{LogReading}
 use Rattle.engine.proofs.Calls.{all-bytes}
 use Rattle.rows.proofs.Calls.{refused-formula, accepted-formula}
-use denote.Ref.{now}
-use native.Mathlib.Omega.{arith}
 use borrow.Author.Needs.{needs}
 use Rattle.rows.proofs.with_log.Statement.{statement}
 use Rattle.rows.proofs.with_log.Tie as tie
+use Rattle.rows.proofs.with_log.Reads as reads
+use Rattle.rows.proofs.with_log.Lts as lts
+use Rattle.formula_reader.proofs.read_formula.Reads as read-formula-reads
+use Rattle.rows.proofs.held_in.Reads as held-in-reads
+use Rattle.rows.proofs.with_formula.Reads as with-formula-reads
 
 read-formula-requires : tie.Need-read-formula-requires
 read-formula-requires c κs = search needs
@@ -18,6 +23,9 @@ enum-known-verdict c = search needs
 
 enum-told : tie.Need-enum-told
 enum-told c = search needs
+
+held-in-requires : tie.Need-held-in-requires
+held-in-requires c κs = search needs
 
 slice-aggregate-with-formula : tie.Need-slice-aggregate-with-formula
 slice-aggregate-with-formula c = search needs
@@ -41,8 +49,10 @@ same-length-2 c = search needs
 returns-2 : tie.Need-returns-2
 unfolding answerOf
 returns-2 c =
-    let bytes = all-bytes (now (c .before .before .before .before .before .before .before .before .before .before .before .before .before .before .before .before .before .before .before .args .f)) (λ i. omega (arith, c .before .before .before .before .before .before .before .before .before .before .before .before .before .before .before .before .before .shared-slice-known2 .given i)) in
-    λ g e b ok. accepted-formula g (now (c .before .before .before .before .before .before .before .before .before .before .before .before .before .before .before .before .before .before .before .args .l)) (now (c .before .before .before .before .before .before .before .before .before .before .before .before .before .before .before .before .before .before .before .args .f)) (c .before .before .before .before .before .before .before .before .before .before .before .before .before .before .before .before .before .before .before .args .log) (c .before .before .before .before .before .before .before .before .before .before .before .before .before .before .read-formula .result) bytes e b ok (c .before .before .before .before .before .before .before .before .before .before .before .before .before .before .read-formula .ensures (g .fields) (ap (λ (x : LogReading). x .fields) (sym e))) (c .before .before .before .before .before .before .before .before .before .before .before .before .enum-told .given .1) (now (c .before .before .before .before .before .before .before .before .before .before .before .before .before .before .before .before .before .before .before .args .work)) _ (now (c .before .before .before .before .before .before .before .before .before .before .before .before .before .before .before .before .before .before .before .args .rows)) _ _ (λ fm. c .before .before .before .before .with-formula .ensures g fm)
+    let a = c .before .before .before .before .before .before .before .before .before .before .before .before .before .before .before .before .before .before .before .args in
+    let r = c .before .before .before .before .before .before .before .before .before .before .before .before .before .before .read-formula .result in
+    let bytes = all-bytes (now (a .f)) (λ i. omega (arith, c .before .before .before .before .before .before .before .before .before .before .before .before .before .before .before .before .before .shared-slice-known2 .given i)) in
+    λ g e b ok. accepted-formula g (now (a .l)) (now (a .f)) (a .log) r bytes e b ok (c .before .before .before .before .before .before .before .before .before .before .before .before .before .before .read-formula .ensures (g .fields) (ap (λ (x : LogReading). x .fields) (sym e))) (c .before .before .before .before .before .before .before .before .before .before .before .before .enum-told .given .1) (c .before .before .before .before .before .before .before .before .before .held-in .result) (c .before .before .before .before .before .before .before .before .before .held-in .ensures) (now (a .work)) _ (now (a .rows)) _ _ (λ fm. c .before .before .before .before .with-formula .ensures g fm)
 
 pub with-log-spec : {M : Type 1} → statement M
 with-log-spec =
@@ -51,6 +61,7 @@ with-log-spec =
     read-formula-requires
     enum-known-verdict
     enum-told
+    held-in-requires
     slice-aggregate-with-formula
     slice-aggregate-with-formula-2
     with-formula-requires

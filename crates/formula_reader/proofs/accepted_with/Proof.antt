@@ -1,0 +1,16 @@
+-- `formula_reader::accepted_with` meets its contract: field by field.
+use borrow.Author.Needs.{needs}
+use Rattle.formula_reader.proofs.accepted_with.Statement.{statement}
+use Rattle.formula_reader.proofs.accepted_with.Tie as tie
+use Rattle.formula_reader.proofs.accepted_with.Reads as reads
+use Rattle.formula_reader.proofs.accepted_with.Lts as lts
+use Rattle.formula_reader.proofs.mask_of.Reads as mask-of-reads
+
+mask-of-requires : tie.Need-mask-of-requires
+mask-of-requires c κs = search needs
+
+returns : tie.Need-returns
+returns c = rw (c .mask-of .ensures)
+
+pub accepted-with-spec : {M : Type 1} → statement M
+accepted-with-spec = tie.close (tie.spec mask-of-requires returns)
