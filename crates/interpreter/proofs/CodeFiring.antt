@@ -124,7 +124,7 @@ module _ (fields states : ℕ) (f : List ℕ) (at : ℕ) (s : Step) (h : StepAt 
   unfolding stepCommands encodeCommand flatMap
   inside = byte-inside f at 0x11 (sym (first-byte f _ at (h .bytes))) (omega arith)
 
-  target-byte : getD f (at + 1) 0 ≡ s .target
+  pub target-byte : getD f (at + 1) 0 ≡ s .target
   unfolding stepCommands encodeCommand flatMap
   target-byte = byte-from f _ at 1 (h .bytes)
 

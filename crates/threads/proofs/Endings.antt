@@ -34,6 +34,14 @@ module _ (g : Log) (fm : Formula) where
   unfolding Runs.leastFrom keep
   improved-none best h = improved-same best [] refl h
 
+  -- a step that leads to an open state ends nothing
+  pub better-past : (best : Best) → BestFits fm best → (t : Thread) (n k : ℕ) → ((d : Config) → fireAt g fm (conf t) n k ≡ some d → final fm d ≡ false) → Improved g fm best (moveBy g fm t n k) best
+  better-past best ok t n k o = by (fireAt g fm (conf t) n k) refl
+    where
+      by : (x : Option Config) → fireAt g fm (conf t) n k ≡ x → Improved g fm best (Runs.arrive (machine g fm) (thread g fm t) n k x []) best
+      by none e = improved-none best ok
+      by (some d) e = improved-same best _ (ending-open (machine g fm) (bestOf g fm best) _ [] (o d e) ∙ sym (improved-none best ok .least)) ok
+
   module _ (best : Best) (ok : BestFits fm best) (t : Thread) (n k : ℕ) (m : Move) (h : MovedBy g fm (fireAt g fm (conf t) n k) t n k m) where
     -- the step does not fire
     pub better-silent : m .fires ≡ false → Improved g fm best (moveBy g fm t n k) best
@@ -43,16 +51,6 @@ module _ (g : Log) (fm : Formula) where
         by : (o : Option Config) → MovedBy g fm o t n k m → Improved g fm best (Runs.arrive (machine g fm) (thread g fm t) n k o []) best
         by none x = improved-same best [] refl ok
         by (some d) x = absurd (false≢true (sym e ∙ x .fires))
-
-    -- it fires, and its target is open
-    pub better-open : m .fires ≡ true → final fm (conf (m .thread)) ≡ false → Improved g fm best (moveBy g fm t n k) best
-    better-open e o = by (fireAt g fm (conf t) n k) h
-      where
-        by : (o : Option Config) → MovedBy g fm o t n k m → Improved g fm best (Runs.arrive (machine g fm) (thread g fm t) n k o []) best
-        by none x = absurd (true≢false (sym e ∙ x))
-        by (some d) x =
-            subst (λ (y : Runs.Thread (machine g fm)). Improved g fm best (y ∷ []) best) (x .is)
-            (improved-same best (thread g fm (m .thread) ∷ []) (ending-open (machine g fm) (bestOf g fm best) (thread g fm (m .thread)) [] o ∙ sym (improved-none best ok .least)) ok)
 
     -- it ends a run: the lesser of the two is the best
     better-final : m .fires ≡ true → final fm (conf (m .thread)) ≡ true → (r : Best) → bestOf g fm r ≡ some (Runs.lesser (machine g fm) (bestOf g fm best) (thread g fm (m .thread))) → (Fit fm (m .thread) → BestFits fm r) → Improved g fm best (moveBy g fm t n k) r

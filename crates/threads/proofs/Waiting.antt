@@ -94,8 +94,25 @@ module _ (g : Log) (fm : Formula) (t : Thread) (n k : ℕ) (m : Move) (h : Moved
       by none x = absurd (true≢false (sym e ∙ x))
       by (some d) x = (ap (λ (y : Runs.Thread (machine g fm)). y ∷ []) (sym (x .is)), x .fit)
 
+  -- what it leaves has ended, where it leads to a state that accepts or rejects
+  pub move-final : m .fires ≡ true → ((d : Config) → fireAt g fm (conf t) n k ≡ some d → final fm d ≡ true) → final fm (conf (m .thread)) ≡ true
+  move-final e o = by (fireAt g fm (conf t) n k) refl h
+    where
+      by : (x : Option Config) → fireAt g fm (conf t) n k ≡ x → MovedBy g fm x t n k m → final fm (conf (m .thread)) ≡ true
+      by none q x = absurd (true≢false (sym e ∙ x))
+      by (some d) q x = ap (λ (y : Runs.Thread (machine g fm)). final fm (y .config)) (x .is) ∙ o d q
+
 module _ (g : Log) (fm : Formula) where
   -- ---- what may wait
+
+  -- a step that leads to a state that accepts or rejects leaves nothing that waits
+  pub offered-past : (t : Thread) (n k : ℕ) → ((d : Config) → fireAt g fm (conf t) n k ≡ some d → final fm d ≡ true) → offered g fm n (moveBy g fm t n k) ≡ []
+  unfolding keep Runs.unended
+  offered-past t n k o = by (fireAt g fm (conf t) n k) refl
+    where
+      by : (x : Option Config) → fireAt g fm (conf t) n k ≡ x → offered g fm n (Runs.arrive (machine g fm) (thread g fm t) n k x []) ≡ []
+      by none e = refl
+      by (some d) e = rw (o d e)
 
   module _ (n : ℕ) (b : Thread) (w : Fit fm b) where
     unended-is : Runs.unended (machine g fm) (thread g fm b) ≡ (not (final fm (conf b)) && leb (b .steps) 31)

@@ -10,6 +10,7 @@ use Rattle.base.proofs.Lists.{getD-pad}
 use Rattle.event_log.specs.Log.{Log}
 use Rattle.formula.specs.Formula.{Formula, State, StateKind, ordinary, committed as committedKind, accept, reject}
 use Rattle.formula.specs.Encode.{kindByte}
+use Rattle.machine.specs.Configuration.{Config}
 use Rattle.machine.specs.Machine.{kindIs, isFinal, isCommitted, final, committed}
 use Rattle.slots.specs.declared.Thread.{Thread}
 use Rattle.threads.specs.Setting.{Setting, Fit, conf}
@@ -36,16 +37,18 @@ by-committed committedKind = refl
 by-committed accept = refl
 by-committed reject = refl
 
-module _ (g : Log) (fm : Formula) (f table kinds : List ℕ) (up : List Bool) (s : Setting g fm f table kinds up) (t : Thread) (h : Fit fm t) where
-  word-of : getD kinds (t .state) 0 ≡ getD (words (fm .states)) (t .state) 0
-  word-of =
-      ap (λ (l : List ℕ). getD l (t .state) 0) (s .kinds-are)
-      ∙ getD-pad 16 0 (words (fm .states)) (t .state) (omega (arith, h .valid .declared, s .formula .states))
+module _ (g : Log) (fm : Formula) (f table kinds : List ℕ) (up : List Bool) (s : Setting g fm f table kinds up) where
+  word-at : (i : ℕ) → i < length (fm .states) → getD kinds i 0 ≡ getD (words (fm .states)) i 0
+  word-at i h = ap (λ (l : List ℕ). getD l i 0) (s .kinds-are) ∙ getD-pad 16 0 (words (fm .states)) i (omega (arith, s .formula .states))
 
-  pub final-word : leb 2 (getD kinds (t .state) 0) ≡ final fm (conf t)
+  pub final-at : (d : Config) → d .state < length (fm .states) → leb 2 (getD kinds (d .state) 0) ≡ final fm d
   unfolding final
-  final-word = ap (leb 2) word-of ∙ word-is (leb 2) isFinal by-final (fm .states) (t .state) (h .valid .declared)
+  final-at d h = ap (leb 2) (word-at (d .state) h) ∙ word-is (leb 2) isFinal by-final (fm .states) (d .state) h
+
+module _ (g : Log) (fm : Formula) (f table kinds : List ℕ) (up : List Bool) (s : Setting g fm f table kinds up) (t : Thread) (h : Fit fm t) where
+  pub final-word : leb 2 (getD kinds (t .state) 0) ≡ final fm (conf t)
+  final-word = final-at g fm f table kinds up s (conf t) (h .valid .declared)
 
   pub committed-word : eqb (getD kinds (t .state) 0) 1 ≡ committed fm (conf t)
   unfolding committed
-  committed-word = ap (λ w. eqb w 1) word-of ∙ word-is (λ w. eqb w 1) isCommitted by-committed (fm .states) (t .state) (h .valid .declared)
+  committed-word = ap (λ w. eqb w 1) (word-at g fm f table kinds up s (t .state) (h .valid .declared)) ∙ word-is (λ w. eqb w 1) isCommitted by-committed (fm .states) (t .state) (h .valid .declared)

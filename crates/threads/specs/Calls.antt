@@ -12,7 +12,7 @@ use Rattle.runs.specs.Lists.{only, keep}
 use Rattle.runs.specs.Search as Runs
 use Rattle.runs.specs.Threads.{insertWithin}
 use Rattle.machine.specs.Configuration.{Config}
-use Rattle.machine.specs.Machine.{machine, fireAt}
+use Rattle.machine.specs.Machine.{machine, fireAt, final}
 use Rattle.slots.specs.declared.Thread.{Thread}
 use Rattle.slots.specs.Threads.{trailOf}
 use Rattle.slots.specs.Words.{list}
@@ -39,6 +39,11 @@ FiredBy (some d) t r = Fired t d r
 abbrev pub FiresIs : List ℕ → List ℕ → Thread → List ℕ → ℕ → Move → Type 0
 FiresIs f table t event k r =
     (g : Log) (fm : Formula) (kinds : List ℕ) (up : List Bool) (n : ℕ) → Setting g fm f table kinds up → Loads g n event → Fit fm t → k < 8 → FiredBy (fireAt g fm (conf t) n k) t r
+
+-- step k of a state leads to a state that accepts or rejects, wherever it fires
+abbrev pub EndsIs : List ℕ → List ℕ → List ℕ → ℕ → ℕ → Bool → Type 0
+EndsIs f table kinds state k r =
+    (g : Log) (fm : Formula) (up : List Bool) → Setting g fm f table kinds up → k < 8 → (n : ℕ) (c d : Config) → c .state ≡ state → fireAt g fm c n k ≡ some d → final fm d ≡ r
 
 -- some step of the thread's state is not expired (the paper's hopeless) after the event
 abbrev pub HopefulIs : List ℕ → List ℕ → List Bool → Thread → List ℕ → Bool → Type 0

@@ -119,12 +119,12 @@ fn better(
     requires { ⌜ (n < 1024) × (k < 8) ⌝ }
     ensures { λ r. ⌜ BetterIs (now (f .entry)) (now (table .entry)) (now (kinds .entry)) best t n event k r ⌝ }
 {
+    if !step::ends_by(f, table, kinds, t.state, k) {
+        return best;
+    }
     let next = moved(f, table, t, n, event, k);
     let thread = next.thread;
     if !next.fires {
-        return best;
-    }
-    if !is_final(kinds, thread.state) {
         return best;
     }
     if best.found {
@@ -263,6 +263,9 @@ fn offer_move(
     requires { ⌜ (slots * 192 ≤ length (now work)) × (half < 2) × (count ≤ slots) × (n < 1024) × (k < 8) ⌝ }
     ensures { λ r. ⌜ Grown half slots (now (work .entry)) (now (work .exit)) r × OfferMoveIs (now (f .entry)) (now (table .entry)) (now (kinds .entry)) up half count slots n event t k (now (work .entry)) (now (work .exit)) r ⌝ }
 {
+    if step::ends_by(f, table, kinds, t.state, k) {
+        return count;
+    }
     let next = moved(f, table, t, n, event, k);
     let b = next.thread;
     if next.fires {

@@ -5,7 +5,7 @@ use slots::Thread;
 ghost use mathlib.Core.Path.{_≡_};
 ghost use Rattle.interpreter.specs.Bytes.{configOf};
 ghost use Rattle.threads.specs.Setting.{conf};
-ghost use Rattle.threads.specs.Calls.{FiresIs, LowestIs, HopefulIs};
+ghost use Rattle.threads.specs.Calls.{EndsIs, FiresIs, LowestIs, HopefulIs};
 
 // The configuration of a thread.
 fn configuration_of(t: Thread) -> Configuration
@@ -38,6 +38,17 @@ fn thread_in(t: Thread, c: Configuration) -> Thread
         steps: t.steps,
         trail,
     }
+}
+
+// Whether step k of a state leads to a state that accepts or rejects: such a step ends runs and leaves nothing to wait.
+pub fn ends_by(f: &[u8], table: &[usize], kinds: &[u32], state: u32, k: u32) -> bool
+    ensures { λ r. ⌜ EndsIs (now (f .entry)) (now (table .entry)) (now (kinds .entry)) state k r ⌝ }
+{
+    let at = interpreter::steps::step_offset(table, state, k as usize);
+    if at < f.len() {
+        return crate::is_final(kinds, base::byte_at(f, at + 1));
+    }
+    false
 }
 
 // Whether step k of a thread's state fires on an event, and the thread in the configuration that it leaves, its trail as before.

@@ -1,0 +1,52 @@
+-- `threads::ends_by` meets its contract: the byte behind the step's command is its target.
+use native.Mathlib.Omega.{arith}
+use Prim.Native.Nat.{_+_}
+use mathlib.Core.Path.{_≡_, ap, sym, _∙_}
+use denote.Ref.{now}
+use lib.ListN.{length, getD}
+use lib.Dec.{leb}
+use Rattle.interpreter.specs.Bytes.{offsetOf}
+use Rattle.threads.proofs.Targets.{target-inside, target-final}
+use borrow.Author.Needs.{needs}
+use Rattle.threads.proofs.step.ends_by.Statement.{statement}
+use Rattle.threads.proofs.step.ends_by.Tie as tie
+use Rattle.threads.proofs.step.ends_by.Reads as reads
+use Rattle.threads.proofs.step.ends_by.Lts as lts
+use Rattle.base.proofs.byte_at.Reads as byte-at-reads
+use Rattle.interpreter.proofs.steps.step_offset.Reads as step-offset-reads
+use Rattle.threads.proofs.is_final.Reads as is-final-reads
+
+step-offset-requires : tie.Need-step-offset-requires
+step-offset-requires c κs = search needs
+
+add-byte-at : tie.Need-add-byte-at
+add-byte-at c = search needs
+
+byte-at-requires : tie.Need-byte-at-requires
+byte-at-requires c κs = search needs
+
+is-final-requires : tie.Need-is-final-requires
+is-final-requires c κs = search needs
+
+returns : tie.Need-returns
+returns c =
+    let a = c .before .before .before .before .before .before .before .args in
+    let at = c .before .before .before .step-offset .ensures in
+    let e : c .is-final .result ≡ leb 2 (getD (now (a .kinds)) (getD (now (a .f)) (offsetOf (now (a .table)) (a .state) (a .k) + 1) 0) 0) = c .is-final .ensures ∙ ap (λ i. leb 2 (getD (now (a .kinds)) i 0)) (c .before .byte-at .ensures .0 ∙ ap (λ i. getD (now (a .f)) (i + 1) 0) at) in
+    λ g fm up s h n x d i q. sym (e ∙ target-final g fm (now (a .f)) (now (a .table)) (now (a .kinds)) up s (a .state) (a .k) h n x d i q)
+
+returns-2 : tie.Need-returns-2
+returns-2 c =
+    let a = c .before .before .before .before .before .args in
+    λ g fm up s h n x d i q. absurd (omega (arith, target-inside g fm (now (a .f)) (now (a .table)) (now (a .kinds)) up s (a .state) (a .k) h n x d i q, c .before .step-offset .ensures, c .if1 .left))
+
+pub ends-by-spec : {M : Type 1} → statement M
+ends-by-spec =
+    tie.close
+    (tie.spec
+    step-offset-requires
+    add-byte-at
+    byte-at-requires
+    is-final-requires
+    returns
+    returns-2)

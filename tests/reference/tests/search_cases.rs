@@ -1,0 +1,80 @@
+//! The stored answers of the program search_cases: this implementation gives
+//! the same to each of its cases. A line of them has the names of a log and a
+//! formula, the start, the work words and the answer.
+
+use reference::compose::*;
+use std::path::PathBuf;
+use std::process::Command;
+
+const STORED: &str = include_str!("../../../crates/search_cases/stdout");
+
+/// One step a variable, from a state to itself.
+fn gather(own: u8, variables: u8) -> Vec<u8> {
+    let bound = |variable| join(&[step(own), bind(0, variable)]);
+    let steps: Vec<Vec<u8>> = (0..variables).map(bound).collect();
+    join(&[state(0), join(&steps)])
+}
+
+/// F's form: a trip, its time bound, then an open; the last state's kind.
+fn trip_then_open(kind: u8) -> Vec<u8> {
+    let trip = join(&[state(0), step(1), test(1, 0, 1), bind(0, 0)]);
+    let open = join(&[state(0), step(2), test(1, 0, 2)]);
+    file(&[trip, open, state(kind)])
+}
+
+fn log_named(name: &str) -> Vec<u8> {
+    let times: [&[u32]; 4] = [&[598], &[599], &[600], &[601]];
+    let alike: [&[u32]; 32] = [&[0]; 32];
+    match name {
+        "L" => log(&[1, 0], &[&[500, 1], &[500, 2]]),
+        "exchanged" => log(&[1, 0], &[&[500, 2], &[500, 1]]),
+        "three" => log(&[0], &alike[..3]),
+        "rising" => log(&[1], &times),
+        "plain" => log(&[0], &times),
+        "nine" => log(&[0], &[&[0], &[0], &[9]]),
+        "many" => log(&[0], &alike),
+        "empty" => Vec::new(),
+        _ => panic!("no log {name}"),
+    }
+}
+
+fn formula_named(name: &str) -> Vec<u8> {
+    let both = join(&[state(0), step(1), step(2)]);
+    let bare = join(&[state(0), step(1)]);
+    let (seven, six) = (gather(1, 7), gather(2, 6));
+    let open = join(&[state(0), step(1), test(1, 0, 2), bind(0, 0)]);
+    let trip = join(&[state(0), step(2), testv(0, 0, 0), test(1, 0, 1)]);
+    let waits = join(&[state(0), step(3), test(0, 0, 1)]);
+    let soon = join(&[state(0), step(1), test(0, 2, 600)]);
+    let ended = guard(op(EQUAL, &[count(0), constant(32)]));
+    match name {
+        "F" => trip_then_open(2),
+        "rejecting" => trip_then_open(3),
+        "G" => file(&[open, trip, state(2)]),
+        "bare" => file(&[bare.clone(), bare]),
+        "full" => file(&[both, seven, six]),
+        "over" => file(&[both, step(3), seven, six, waits]),
+        "before" => file(&[both, soon, state(0), step(2)]),
+        "repeated" => file(&[bare.clone(), bare, step(2), test(0, 0, 9), state(2)]),
+        "counted" => file(&[state(1), step(1), ended, step(0), state(2)]),
+        "empty" => Vec::new(),
+        _ => panic!("no formula {name}"),
+    }
+}
+
+#[test]
+fn the_stored_answers() {
+    let room = PathBuf::from(env!("CARGO_TARGET_TMPDIR"));
+    let (l, f) = (room.join("stored_log.bin"), room.join("stored_formula.bin"));
+    for line in STORED.lines() {
+        let parts: Vec<&str> = line.splitn(5, ' ').collect();
+        std::fs::write(&l, log_named(parts[0])).expect("a log");
+        std::fs::write(&f, formula_named(parts[1])).expect("a formula");
+        let mut command = Command::new(env!("CARGO_BIN_EXE_reference"));
+        let files = command.arg("search").arg(&l).arg(&f);
+        let output = files.args(&parts[2..4]).output().expect("an output");
+        let answer = String::from_utf8(output.stdout).expect("text");
+        assert_eq!(answer.trim_end(), parts[4], "{line}");
+    }
+    assert_eq!(STORED.lines().count(), 33);
+}
