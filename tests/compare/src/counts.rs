@@ -28,6 +28,25 @@ impl Counts {
         }
     }
 
+    /// What the cases did not reach, of what they have to reach.
+    pub fn missing(&self) -> Option<String> {
+        let reached = [
+            ("an accepting run", self.accepts),
+            ("a rejecting run", self.rejects),
+            ("a search without a run", self.nones),
+            ("a none row", self.rows[0]),
+            ("an alert row", self.rows[1]),
+            ("a subsumed row", self.rows[2]),
+            ("a rejected row", self.rows[3]),
+        ];
+        let refusal = (1..self.refusals.len()).find(|&number| self.refusals[number] == 0);
+        let other = reached.iter().find(|(_, times)| *times == 0);
+        match refusal {
+            Some(number) => Some(format!("refusal {number}")),
+            None => other.map(|(what, _)| String::from(*what)),
+        }
+    }
+
     pub fn run(&mut self, verdict: usize, steps: usize, width: usize) {
         match verdict {
             ACCEPT => self.accepts += 1,

@@ -1,6 +1,4 @@
 -- `exports::hikwallu_analyse` meets its contract: what the analysis answers.
-use mathlib.Core.Path.{ap, _∙_}
-use Rattle.exports.specs.Exports.{outcomeRefusal}
 use borrow.Author.Needs.{needs}
 use Rattle.exports.proofs.hikwallu_analyse.Statement.{statement}
 use Rattle.exports.proofs.hikwallu_analyse.Tie as tie
@@ -18,7 +16,9 @@ same-length-2 : tie.Need-same-length-2
 same-length-2 c = search needs
 
 returns : tie.Need-returns
-returns c = let a = c .before .before .before .before .before .analyse .ensures in (c .outcome-refusal .ensures ∙ ap outcomeRefusal (a .outcome), (a .rows, a .work))
+returns c =
+    let a = c .before .before .before .before .before .analyse .ensures in
+    (rw (c .outcome-refusal .ensures, a .outcome), (a .rows, a .work))
 
 pub hikwallu-analyse-spec : {M : Type 1} → statement M
 hikwallu-analyse-spec =

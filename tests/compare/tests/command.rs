@@ -38,14 +38,14 @@ fn seeds_give_one_line() {
     assert!(output.status.success());
     let line = text(&output.stdout);
     assert_eq!(line.lines().count(), 1);
-    assert!(line.starts_with("30 cases agree: "), "{line}");
+    assert!(line.starts_with("stand-in: 30 cases agree: "), "{line}");
 }
 
 #[test]
 fn no_seeds_agree_too() {
     let output = compare(&["7", "7"]);
     assert!(output.status.success());
-    assert!(text(&output.stdout).starts_with("0 cases agree: "));
+    assert!(text(&output.stdout).starts_with("stand-in: 0 cases agree: "));
 }
 
 #[test]

@@ -19,6 +19,13 @@ compare program BIN [FROM TO] [--keep FOLDER]";
 const SEEDS: Range<u64> = 0..3000;
 const PROGRAM_SEEDS: Range<u64> = 0..400;
 
+/// Says so where the stand-in takes the library's place.
+const SHOWN: &str = if cfg!(feature = "fake") {
+    "stand-in: "
+} else {
+    ""
+};
+
 /// Time between two lines of progress.
 const PAUSE: Duration = Duration::from_secs(5);
 
@@ -43,7 +50,7 @@ fn main() -> ExitCode {
     };
     match end {
         Ok(line) => {
-            println!("{line}");
+            println!("{SHOWN}{line}");
             ExitCode::SUCCESS
         }
         Err(disagreement) => {
@@ -87,7 +94,19 @@ fn fixed() -> Result<String, Disagreement> {
     for seed in SEEDS {
         with_seed(rounds::rolled(&mut comparison, seed), seed)?;
     }
-    Ok(comparison.counts.to_string())
+    match comparison.counts.missing() {
+        Some(missing) => Err(without_files(format!("no case reaches {missing}"))),
+        None => Ok(comparison.counts.to_string()),
+    }
+}
+
+/// What went wrong, where no file shows it.
+fn without_files(cause: String) -> Disagreement {
+    Disagreement {
+        cause,
+        log: Vec::new(),
+        formula: Vec::new(),
+    }
 }
 
 fn by_hand(seeds: Range<u64>) -> Result<String, Disagreement> {
@@ -108,11 +127,8 @@ fn run_program(program: &str, seeds: Range<u64>) -> Result<String, Disagreement>
     let mut runner = match Runner::new(Path::new(program), folder) {
         Ok(runner) => runner,
         Err(error) => {
-            return Err(Disagreement {
-                cause: format!("{program} cannot be run: {error}"),
-                log: Vec::new(),
-                formula: Vec::new(),
-            })
+            let cause = format!("{program} cannot be run: {error}");
+            return Err(without_files(cause));
         }
     };
     runner.fixed()?;

@@ -6,9 +6,9 @@ use Rattle.refusal.specs.declared.Report.{Report}
 use Rattle.event_log.specs.declared.Verdict as LogVerdict
 use Rattle.event_log.specs.declared.Verdict.the-variants as LogIs
 use Rattle.event_log.specs.declared.LogReading.{LogReading}
-use Rattle.formula.specs.declared.Verdict as FormulaVerdict
-use Rattle.formula.specs.declared.Verdict.the-variants as FormulaIs
-use Rattle.formula.specs.declared.FormulaReading.{FormulaReading}
+use Rattle.formula_reader.specs.declared.Verdict as FormulaVerdict
+use Rattle.formula_reader.specs.declared.Verdict.the-variants as FormulaIs
+use Rattle.formula_reader.specs.declared.FormulaReading.{FormulaReading}
 use Rattle.search.specs.declared.Verdict as SearchVerdict
 use Rattle.search.specs.declared.Verdict.the-variants as SearchIs
 use Rattle.search.specs.declared.SearchAnswer.{SearchAnswer}

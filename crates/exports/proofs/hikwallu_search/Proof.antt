@@ -16,7 +16,9 @@ same-length : tie.Need-same-length
 same-length c = search needs
 
 returns : tie.Need-returns
-returns c = let s = c .before .before .before .before .before .before .before .before .search .ensures in (rw (c .before .search-refusal .ensures, c .verdict-number .ensures, s .0), s .1 .0 .0)
+returns c =
+    let s = c .before .before .before .before .before .before .before .before .search .ensures in
+    (rw (c .before .search-refusal .ensures, c .verdict-number .ensures, s .0), s .1 .0 .0)
 
 pub hikwallu-search-spec : {M : Type 1} → statement M
 hikwallu-search-spec =

@@ -1,8 +1,8 @@
 //! `bench [--repeat N] [--events N] [KIND..]` times product and reference on
 //! the same heavy cases, turn by turn: every start's analysis, then the search
 //! of one start.
-//! `bench --once KIND product|plain [EVENTS]` makes one analysis alone, for a
-//! count of instructions.
+//! `bench --once analysis|search KIND product|plain [EVENTS]` makes one call
+//! alone, for a count of instructions.
 
 use compare::clock;
 use compare::files::Pair;
@@ -21,7 +21,7 @@ const WORDS: usize = MOST_SEATS * SEAT_WORDS;
 const LEAST: Duration = Duration::from_millis(100);
 
 const USAGE: &str = "bench [--repeat N] [--events N] [KIND..]
-bench --once KIND product|plain [EVENTS]
+bench --once analysis|search KIND product|plain [EVENTS]
 kinds: ordinary guards committed overlap quiet still";
 
 struct Options {
@@ -34,9 +34,9 @@ fn main() -> ExitCode {
     let words: Vec<String> = std::env::args().skip(1).collect();
     let words: Vec<&str> = words.iter().map(String::as_str).collect();
     let done = match *words {
-        ["--once", kind, which] => once(kind, which, MOST_EVENTS),
-        ["--once", kind, which, events] => match events.parse() {
-            Ok(events) => once(kind, which, events),
+        ["--once", call, kind, which] => once(call, kind, which, MOST_EVENTS),
+        ["--once", call, kind, which, events] => match events.parse() {
+            Ok(events) => once(call, kind, which, events),
             Err(_) => None,
         },
         _ => options(&words).map(|options| measure(&options)),
@@ -87,10 +87,28 @@ pub fn bench_plain(pair: &Pair, _work: &mut [u32], rows: &mut [u32]) -> usize {
     answer.err().map_or(0, |refusal| refusal.number as usize)
 }
 
-type Analysis = fn(&Pair, &mut [u32], &mut [u32]) -> usize;
+/// The product's search of start 0, likewise: its refusal and its width.
+#[no_mangle]
+#[inline(never)]
+pub fn search_product(pair: &Pair, work: &mut [u32], _rows: &mut [u32]) -> usize {
+    let found = product::search(&pair.log, &pair.formula, 0, work);
+    1000 * found.refused.number + found.width
+}
 
-/// One analysis: its time, its answer and its rows.
-fn analysis(which: Analysis, pair: &Pair, events: usize) -> (Duration, usize, Vec<u32>) {
+/// The reference's search of start 0, likewise.
+#[no_mangle]
+#[inline(never)]
+pub fn search_plain(pair: &Pair, _work: &mut [u32], _rows: &mut [u32]) -> usize {
+    match search::search(&pair.log, &pair.formula, 0, WORDS) {
+        Ok(answer) => answer.width,
+        Err(refusal) => 1000 * refusal.number as usize,
+    }
+}
+
+type Call = fn(&Pair, &mut [u32], &mut [u32]) -> usize;
+
+/// One call: its time, its answer and its rows.
+fn call(which: Call, pair: &Pair, events: usize) -> (Duration, usize, Vec<u32>) {
     let mut work = vec![0; WORDS];
     let mut rows = vec![0; ROW_WORDS * events];
     let begin = clock::now();
@@ -98,19 +116,24 @@ fn analysis(which: Analysis, pair: &Pair, events: usize) -> (Duration, usize, Ve
     (clock::now() - begin, answer, rows)
 }
 
-fn once(kind: &str, which: &str, events: usize) -> Option<bool> {
+fn once(what: &str, kind: &str, which: &str, events: usize) -> Option<bool> {
     let kind = Kind::named(kind)?;
-    let called: Analysis = match which {
-        "product" => bench_product,
-        "plain" => bench_plain,
+    let called: Call = match (what, which) {
+        ("analysis", "product") => bench_product,
+        ("analysis", "plain") => bench_plain,
+        ("search", "product") => search_product,
+        ("search", "plain") => search_plain,
         _ => return None,
     };
     let pair = heavy::pair(kind, events);
-    let (_, answer, rows) = analysis(called, &pair, events);
+    let (_, answer, rows) = call(called, &pair, events);
     let sum = rows
         .iter()
         .fold(0u32, |sum, &word| sum.wrapping_mul(31).wrapping_add(word));
-    println!("{} {which}: refusal {answer}, rows {sum:08x}", kind.name());
+    println!(
+        "{what} {} {which}: answer {answer}, rows {sum:08x}",
+        kind.name()
+    );
     Some(true)
 }
 
@@ -143,14 +166,14 @@ fn line(what: &str, kind: Kind, product: Vec<Duration>, plain: Vec<Duration>, no
         milliseconds(product.middle),
         milliseconds(plain.least),
         milliseconds(plain.middle),
-        product.middle.as_secs_f64() / plain.middle.as_secs_f64(),
+        product.least.as_secs_f64() / plain.least.as_secs_f64(),
     );
 }
 
 /// False if the two differ anywhere.
 fn measure(options: &Options) -> bool {
     println!(
-        "milliseconds on the processor, least and middle of {}",
+        "milliseconds on the processor, least and middle of {}; ratio of the least",
         options.repeat
     );
     println!(
@@ -173,9 +196,9 @@ fn measure_analysis(kind: Kind, pair: &Pair, options: &Options) -> bool {
     let (mut product, mut plain) = (Vec::new(), Vec::new());
     let mut same = true;
     for _ in 0..options.repeat {
-        let (time, answer, rows) = analysis(bench_product, pair, options.events);
+        let (time, answer, rows) = call(bench_product, pair, options.events);
         product.push(time);
-        let (time, plain_answer, plain_rows) = analysis(bench_plain, pair, options.events);
+        let (time, plain_answer, plain_rows) = call(bench_plain, pair, options.events);
         plain.push(time);
         same &= answer == plain_answer && rows == plain_rows;
     }

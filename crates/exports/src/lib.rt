@@ -8,11 +8,11 @@ ghost use lib.ListN.{length};
 ghost use Rattle.event_log.specs.Log.{Kind};
 ghost use Rattle.event_log.specs.Read.{readLog, answerOf as logAnswer};
 ghost use Rattle.formula.specs.Read.{readFormula};
-ghost use Rattle.formula.specs.Answer.{answerOf as formulaAnswer};
+ghost use Rattle.formula_reader.specs.Answer.{answerOf as formulaAnswer};
 ghost use Rattle.search.specs.Search.{searchAnswer};
-ghost use Rattle.search.specs.Checks.{passes as searchPasses};
+ghost use Rattle.engine.specs.Checks.{passes as searchPasses};
 ghost use Rattle.analysis.specs.Analysis.{analysis};
-ghost use Rattle.analysis.specs.Starts.{passes as analysisPasses};
+ghost use Rattle.rows.specs.Starts.{passes as analysisPasses};
 ghost use Rattle.exports.specs.Exports.{named, nothing, logRefusal, formulaRefusal, searchRefusal, verdictNumber, outcomeRefusal, exportedLog, exportedFormula, exportedSearch};
 
 // A refusal's file, number and place; number 0 where nothing is refused.
@@ -78,12 +78,12 @@ fn log_refusal(v: event_log::Verdict) -> Refused
 }
 
 // The refusal in a formula reader's verdict.
-fn formula_refusal(v: formula::Verdict) -> Refused
+fn formula_refusal(v: formula_reader::Verdict) -> Refused
     ensures { λ t. ⌜ t ≡ formulaRefusal v ⌝ }
 {
     match v {
-        formula::Verdict::Accepted => none(),
-        formula::Verdict::Refused(r) => three_of(r),
+        formula_reader::Verdict::Accepted => none(),
+        formula_reader::Verdict::Refused(r) => three_of(r),
     }
 }
 
@@ -140,7 +140,7 @@ pub extern "C" fn hikwallu_read_log(l: &[u8]) -> LogRead
 pub extern "C" fn hikwallu_read_formula(f: &[u8], fields: usize) -> Refused
     ensures { λ r. ⌜ ((ks : List Kind) → length ks ≡ fields → r ≡ exportedFormula (formulaAnswer (readFormula ks (now (f .entry))))) ⌝ }
 {
-    let reading = formula::read_formula(f, fields);
+    let reading = formula_reader::read_formula(f, fields);
     let verdict = reading.verdict;
     formula_refusal(verdict)
 }
@@ -151,7 +151,7 @@ pub extern "C" fn hikwallu_search(l: &[u8], f: &[u8], start: usize, work: &mut [
     ensures { λ r. ⌜ r ≡ exportedSearch (searchAnswer (now (l .entry)) (now (f .entry)) start (length (now (work .entry)))) ⌝ }
     ensures { λ _. ⌜ (searchPasses (now (l .entry)) (now (f .entry)) start (length (now (work .entry))) ≡ false → now (work .exit) ≡ now (work .entry)) ⌝ }
 {
-    let answer = search::search(l, f, start, work);
+    let answer = engine::search(l, f, start, work);
     let verdict = answer.verdict;
     let events = answer.events;
     let numbers = answer.numbers;
@@ -181,6 +181,6 @@ pub extern "C" fn hikwallu_analyse(
     ensures { λ _. ⌜ now (rows .exit) ≡ analysis (now (l .entry)) (now (f .entry)) (length (now (work .entry))) (now (rows .entry)) .rows ⌝ }
     ensures { λ _. ⌜ (analysisPasses (now (l .entry)) (now (f .entry)) (length (now (work .entry))) (length (now (rows .entry))) ≡ false → now (work .exit) ≡ now (work .entry)) ⌝ }
 {
-    let outcome = analysis::analyse(l, f, work, rows);
+    let outcome = rows::analyse(l, f, work, rows);
     outcome_refusal(outcome)
 }
