@@ -1,12 +1,13 @@
 -- The search's loop over the events: what holds before each, and the answer at its end.
 use Prim.Native.Nat.{ℕ, zero, suc, _+_, _-_, _≤_, _<_, max}
-use mathlib.Core.Path.{_≡_, refl, sym, ap, ap₂, _∙_}
+use mathlib.Core.Path.{_≡_, refl, sym, ap, ap₂, _∙_, subst}
 use mathlib.Core.Bool.{Bool, cond}
 use mathlib.Core.List.{List, [], _∷_, map}
 use native.Mathlib.Numerals.{add-one}
 use native.Mathlib.Omega.{arith}
 use lib.ListN.{length, getD, getElem?, length-map, length-drop}
 use lib.Dec.{eqb}
+use borrow.Author.Tests.{ne-eqb}
 use Rattle.base.specs.Lists.{pad}
 use Rattle.refusal.specs.declared.Refusal.the-variants.{Crowded as CrowdedAt}
 use Rattle.event_log.specs.declared.Loaded.{Loaded}
@@ -16,9 +17,11 @@ use Rattle.event_log.specs.Correct as LogCorrect
 use Rattle.event_log.specs.Event.{loadedAt, eventPlace}
 use Rattle.event_log.proofs.Places.{event-loaded}
 use Rattle.formula.specs.Formula.{Formula}
-use Rattle.runs.specs.Search.{origin, search}
+use Rattle.runs.specs.Machine.{Machine}
+use Rattle.runs.specs.Search.{absent, endings, least, leastFrom, next, origin, search}
 use Rattle.runs.specs.Search as Runs
-use Rattle.runs.specs.Threads.{threads}
+use Rattle.runs.specs.Lists.{keep, gather}
+use Rattle.runs.specs.Threads.{candidates, insertWithin, follow, threads}
 use Rattle.runs.specs.Order.{events, numbers}
 use Rattle.runs.proofs.Loop.{ahead, event-over, event-found, event-crowded, event-next}
 use Rattle.machine.specs.Configuration.{start}
@@ -66,15 +69,32 @@ fit-origin fm h =
       most = omega arith;
     }
 
+-- where nobody waits, no run is found and nobody waits any more
+nobody : (M : Machine) (slots k n p : ℕ) → follow M slots k n [] p ≡ absent p
+unfolding follow candidates insertWithin least leastFrom endings next gather keep
+nobody M slots zero n p = refl
+nobody M slots (suc k) n p = nobody M slots k (suc n) (max p 0) ∙ ap absent (omega arith)
+
 module _ (g : Log) (fm : Formula) where
   length-waiting : (half count : ℕ) (work : List ℕ) → length (waitingIn g fm half count work) ≡ count
   length-waiting half count work = length-map (list half count work) (thread g fm) ∙ length-threads half 0 count work
 
   -- what holds before event n: the waiting list, with the largest width so far, leads to the search's answer
   pub record Going (slots i n place half count width : ℕ) (work : List ℕ) : Type 0 where
-    pub stands : place ≡ eventPlace g n
+    pub stands : n < length (g .events) → place ≡ eventPlace g n
     pub kept : Kept fm half count work
     pub leads : search (machine g fm) slots i ≡ ahead (machine g fm) slots n (waitingIn g fm half count work) width
+
+  -- where nobody waits, the events left change nothing
+  pub going-onward : (slots i n place half count width : ℕ) (work : List ℕ) (m : ℕ) → m ≡ cond (eqb count 0) (length (g .events)) n → Going slots i n place half count width work → Going slots i m place half count width work
+  unfolding threadsFrom
+  going-onward slots i n place half zero width work m e go =
+      record {
+        stands = λ h. absurd (omega (arith, h, e));
+        kept = go .kept;
+        leads = go .leads ∙ nobody (machine g fm) slots (length (g .events) - n) n width ∙ sym (nobody (machine g fm) slots (length (g .events) - m) m width);
+      }
+  going-onward slots i n place half (suc count) width work m e go = subst (λ x. Going slots i x place half (suc count) width work) (sym (e ∙ ap (λ b. cond b (length (g .events)) n) (ne-eqb (suc count) 0 (omega arith)))) go
 
   waiting-origin : (work : List ℕ) → list 0 1 work ≡ originThread ∷ [] → origin (machine g fm) ≡ waitingIn g fm 0 1 work
   unfolding origin start trailOf
@@ -86,7 +106,7 @@ module _ (g : Log) (fm : Formula) (f table kinds : List ℕ) (up : List Bool) (s
   unfolding threads
   going-start slots i at work h p e =
       record {
-        stands = p;
+        stands = λ _. p;
         kept = record { fit = rw e (fit-origin fm (s .formula .nonempty), tt); short = rw e (omega arith, tt) };
         leads = sym (threads-give g fm (s .log) (s .formula) slots i (omega arith)) ∙ ap (λ ths. ahead (machine g fm) slots i ths 0) (waiting-origin g fm work e);
       }
@@ -97,7 +117,7 @@ module _ (g : Log) (fm : Formula) (f table kinds : List ℕ) (up : List Bool) (s
         → Going g fm slots i (n + 1) next (1 - half) more (max width more) after
     going-next more next t after h p turn =
         record {
-          stands = p;
+          stands = λ _. p;
           kept = turn .2;
           leads = go .leads ∙ event-next (machine g fm) slots n width (waitingIn g fm half count work) (waitingIn g fm (1 - half) more after) h (turn .0) (turn .1) ∙ ap₂ (λ m c. ahead (machine g fm) slots m (waitingIn g fm (1 - half) more after) (max width c)) (sym (add-one n)) (length-waiting g fm (1 - half) more after);
         }

@@ -18,7 +18,7 @@ use Rattle.runs.specs.Threads.{candidates, insertWithin}
 use Rattle.machine.specs.Machine.{machine}
 use Rattle.slots.specs.declared.Thread.{Thread}
 use Rattle.slots.specs.Threads.{trailOf}
-use Rattle.threads.specs.Setting.{Setting, Loads, Fit, thread}
+use Rattle.threads.specs.Setting.{Setting, Scene, Loads, Fit, thread}
 use Rattle.threads.specs.Event.{Kept, waitingIn}
 use Rattle.search.specs.declared.Verdict.{Verdict}
 use Rattle.search.specs.declared.Verdict.the-variants.{Accept, Reject}
@@ -73,7 +73,12 @@ TurnTo g fm half count slots n before after t (Waiting more) =
 
 abbrev pub TurnIs : List ℕ → List ℕ → List ℕ → List Bool → ℕ → ℕ → ℕ → List ℕ → List ℕ → ℕ → List ℕ → Turn → Type 0
 TurnIs f table kinds up half count slots before after n event r =
-    (g : Log) (fm : Formula) → Setting g fm f table kinds up → Loads g n event → Kept fm half count before → TurnTo g fm half count slots n before after (r .thread) (r .outcome)
+    (g : Log) (fm : Formula) → Scene g fm f table kinds up event → Loads g n event → Kept fm half count before → TurnTo g fm half count slots n before after (r .thread) (r .outcome)
+
+-- the same, from the table of the formula's steps
+abbrev pub TurnOf : List ℕ → List ℕ → List ℕ → List Bool → ℕ → ℕ → ℕ → List ℕ → List ℕ → ℕ → List ℕ → Turn → Type 0
+TurnOf f steps kinds up half count slots before after n event r =
+    (g : Log) (fm : Formula) → Setting g fm f steps kinds up → Loads g n event → Kept fm half count before → TurnTo g fm half count slots n before after (r .thread) (r .outcome)
 
 -- a next waiting list has at most as many threads as there are slots
 abbrev pub Fits : ℕ → Outcome → Type 0

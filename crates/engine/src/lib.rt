@@ -6,13 +6,15 @@ use search::SearchAnswer;
 use search::Verdict;
 use slots::Thread;
 ghost use mathlib.Core.Path.{_≡_};
-ghost use mathlib.Core.Bool.{false};
+ghost use mathlib.Core.Bool.{false, cond};
 ghost use mathlib.Core.List.{[], _∷_};
-ghost use Prim.Native.Nat.{_*_, _≤_, _<_, min, max};
+ghost use Prim.Native.Nat.{_+_, _*_, _≤_, _<_, min, max};
 ghost use lib.ListN.{length};
+ghost use lib.Dec.{eqb};
 ghost use Rattle.slots.specs.Words.{list};
 ghost use Rattle.search.specs.Search.{slotsOf, without, refusal, searchAnswer};
-ghost use Rattle.engine.specs.Turn.{StandsAt, originThread, entriesOf, verdictAt, namedAnswer, TurnIs, Fits, SearchedFrom};
+ghost use Rattle.engine.specs.Turn.{StandsAt, originThread, entriesOf, verdictAt, namedAnswer, TurnIs, TurnOf, Fits, SearchedFrom};
+ghost use Rattle.threads.specs.Setting.{Wide};
 ghost use Rattle.engine.specs.Checks.{roomy, passes, CheckedIs, refusalOfLog, refusalOfFormula};
 
 // What one event does to a search: a run ends on it, more wait than there are slots, or so many wait after it.
@@ -196,6 +198,37 @@ fn one_event(
     }
 }
 
+// One event, with what it alone says of the steps told first: `wide` is the table of the steps in both halves.
+fn at_event(
+    work: &mut [u32],
+    half: usize,
+    count: usize,
+    slots: usize,
+    f: &[u8],
+    steps: &[usize],
+    wide: [usize; 256],
+    kinds: &[u32],
+    up: [bool; 8],
+    n: usize,
+    event: [u32; 8],
+) -> Turn
+    requires { ⌜ (slots * 192 ≤ length (now work)) × (half < 2) × (count ≤ slots) × (n < 1024) ⌝ }
+    ensures { λ r. ⌜ (Wide (now (steps .entry)) wide → TurnOf (now (f .entry)) (now (steps .entry)) (now (kinds .entry)) up half count slots (now (work .entry)) (now (work .exit)) n event r) ⌝ }
+    ensures { λ r. ⌜ Fits slots (r .outcome) × (length (now (work .exit)) ≡ length (now (work .entry))) ⌝ }
+{
+    let mut table = wide;
+    threads::table::mark_states(&mut table, &work[..], half, count, f, steps, &up, &event);
+    one_event(work, half, count, slots, f, &table, kinds, up, n, event)
+}
+
+// The next event to look at: none any more where nobody waits.
+fn onward(n: usize, more: usize, events: usize) -> usize
+    requires { ⌜ n < events ⌝ }
+    ensures { λ r. ⌜ (r ≡ cond (eqb more 0) events (n + 1)) × (n < r) ⌝ }
+{
+    if more == 0 { events } else { n + 1 }
+}
+
 // The search from one event of an accepted log with an accepted formula, event by event.
 pub fn search_from(
     l: &[u8],
@@ -215,6 +248,7 @@ pub fn search_from(
     ensures { λ r. ⌜ (r .width ≤ slots) × (length (now (work .exit)) ≡ length (now (work .entry))) ⌝ }
 {
     origin_in(work);
+    let wide = threads::table::widened(table);
     let mut half: usize = 0;
     let mut count: usize = 1;
     let mut width: usize = 0;
@@ -223,7 +257,19 @@ pub fn search_from(
     while n < events {
         let loaded = event_log::event_at(l, fields, place);
         let event = loaded.values;
-        let turn = one_event(work, half, count, slots, f, table, kinds, up, n, event);
+        let turn = at_event(
+            work,
+            half,
+            count,
+            slots,
+            f,
+            table,
+            wide,
+            kinds,
+            up,
+            n,
+            event,
+        );
         let thread = turn.thread;
         let outcome = turn.outcome;
         match outcome {
@@ -234,7 +280,7 @@ pub fn search_from(
                 width = larger(width, more);
                 half = 1 - half;
                 place = loaded.next;
-                n += 1;
+                n = onward(n, more, events);
             }
         }
     }

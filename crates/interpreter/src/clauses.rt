@@ -22,7 +22,7 @@ fn either(a: bool, b: bool) -> bool
 }
 
 // "Operators: 0 equal, 1 unequal, 2 less, 3 greater, 4 at most, 5 at least; the field is on the left".
-fn holds(operator: u32, x: u32, y: u32) -> bool
+pub fn holds(operator: u32, x: u32, y: u32) -> bool
     ensures { λ r. ⌜ r ≡ holdsBy operator x y ⌝ }
 {
     match operator {
@@ -36,7 +36,7 @@ fn holds(operator: u32, x: u32, y: u32) -> bool
 }
 
 // A test with less or at most that is false.
-fn missed(operator: u32, x: u32, y: u32) -> bool
+pub fn missed(operator: u32, x: u32, y: u32) -> bool
     ensures { λ r. ⌜ r ≡ missedBy operator x y ⌝ }
 {
     match operator {

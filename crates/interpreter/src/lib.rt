@@ -4,6 +4,7 @@ pub mod compare;
 pub mod expiring;
 pub mod firing;
 mod guard;
+pub mod marks;
 pub mod steps;
 mod trends;
 

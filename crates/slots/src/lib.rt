@@ -4,7 +4,7 @@ ghost use mathlib.Core.Bool.{Bool·beq};
 ghost use mathlib.Core.List.{_++_, map};
 ghost use lib.Dec.{eqb};
 ghost use Prim.Native.Nat.{_+_, _*_, _^_, _≤_, _<_, min};
-ghost use lib.ListN.{length, drop};
+ghost use lib.ListN.{length, getD, drop};
 ghost use Rattle.runs.specs.Order.{lex, order};
 ghost use Rattle.slots.specs.Threads.{trailOf, sameList, sameConfig, comesAfter, withStep, Extended, key, sideOf, greaterOf, position};
 ghost use Rattle.slots.specs.Words.{flag, bit, wordsOf, threadOf, threadAt, put, place, list, Inserted};
@@ -129,6 +129,15 @@ pub fn load_slot(work: &[u32], slot: usize, half: usize) -> Thread
     let a = offset(slot, half);
     let e = a + 96;
     load(&work[a..e])
+}
+
+// The state of a slot's thread in one half.
+pub fn state_at(work: &[u32], slot: usize, half: usize) -> u32
+    requires { ⌜ (slot * 192 + 192 ≤ length (now work)) × (half < 2) ⌝ }
+    ensures { λ r. ⌜ r ≡ getD (now (work .entry)) (place half slot) 0 ⌝ }
+{
+    let a = offset(slot, half);
+    work[a]
 }
 
 // Writes a thread into one half of a slot.

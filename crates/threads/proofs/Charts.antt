@@ -124,15 +124,6 @@ ready-of fm t c e h m =
     ready (length (fm .states)) c (subst (Valid (length (fm .states))) (sym e) (h .valid)) m (omega (arith, w, h .most))
 
 module _ (g : Log) (fm : Formula) (f table kinds : List ℕ) (up : List Bool) (s : Setting g fm f table kinds up) (n : ℕ) (event : List ℕ) (l : Loads g n event) (t : Thread) (k : ℕ) (h : k < 8) where
-  -- a step that the table lacks does not fire
-  pub fires-none : offsetOf table (t .state) k ≡ 0 → fireAt g fm (conf t) n k ≡ none
-  unfolding fireAt
-  fires-none e = go (stepOf fm (t .state) k) (charted g fm f table kinds up s .stands (t .state) k h)
-    where
-      go : (o : Option Step) → StepThere (length (g .fields)) (length (fm .states)) f (offsetOf table (t .state) k) o → fireBy o (conf t) (eventAt g n) ≡ none
-      go none p = refl
-      go (some x) p = absurd (omega (arith, p .0))
-
   -- one that it has fires as the code says, and leaves what the code leaves
   pub fires-some : (c : Configuration) → configOf c ≡ conf t → Ready c → (offsetOf table (t .state) k ≡ 0 → ⊥)
       → fireAt g fm (conf t) n k ≡ cond ((fired f (offsetOf table (t .state) k) c event) .fires) (some (configOf ((fired f (offsetOf table (t .state) k) c event) .config))) none

@@ -1,7 +1,9 @@
 -- Laws of one event of a search: the code of one step, kinds of states, steps, choices, endings, the waiting list.
 pub mod Words
-pub mod Targets
 pub mod Charts
+pub mod Tables
+pub mod Marking
+pub mod Targets
 pub mod Steps
 pub mod Firing
 pub mod Choices

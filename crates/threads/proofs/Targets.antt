@@ -9,28 +9,32 @@ use lib.ListN.{length, getD}
 use Rattle.event_log.specs.Log.{Log}
 use Rattle.formula.specs.Formula.{Formula, Step}
 use Rattle.formula.specs.Encode.{stepCommands}
+use Rattle.formula.specs.Lookup.{stepTable}
 use Rattle.machine.specs.Configuration.{Config}
 use Rattle.machine.specs.Firing.{leave}
 use Rattle.machine.specs.Machine.{stepOf, fireAt, final}
 use Rattle.machine.proofs.Machine.{FiredAt, fire-at-some}
+use Rattle.slots.specs.declared.Thread.{Thread}
 use Rattle.interpreter.specs.Bytes.{offsetOf}
 use Rattle.interpreter.proofs.CodeFiring.{StepAt, inside, target-byte}
 use Rattle.interpreter.proofs.CodeMachine.{StepThere}
-use Rattle.threads.specs.Setting.{Setting}
+use Rattle.threads.specs.Setting.{Scene, Loads, Fit, conf}
 use Rattle.threads.proofs.Charts.{charted}
+use Rattle.threads.proofs.Tables.{fires-stands}
 use Rattle.threads.proofs.Words.{final-at}
 
-module _ (g : Log) (fm : Formula) (f table kinds : List ℕ) (up : List Bool) (s : Setting g fm f table kinds up) (state k : ℕ) (h : k < 8) (n : ℕ) (c d : Config) (here : c .state ≡ state) (e : fireAt g fm c n k ≡ some d) where
-  found : FiredAt g fm c n k d
-  found = fire-at-some g fm c d n k e
+module _ (g : Log) (fm : Formula) (f table kinds : List ℕ) (up : List Bool) (event : List ℕ) (s : Scene g fm f table kinds up event) (n : ℕ) (l : Loads g n event) (t : Thread) (w : Fit fm t) (k : ℕ) (h : k < 8) (d : Config) (e : fireAt g fm (conf t) n k ≡ some d) where
+  found : FiredAt g fm (conf t) n k d
+  found = fire-at-some g fm (conf t) d n k e
 
   -- the step's bytes stand at the table's offset
-  stands : StepAt (length (g .fields)) (length (fm .states)) f (offsetOf table state k) (found .step)
+  stands : StepAt (length (g .fields)) (length (fm .states)) f (offsetOf table (t .state) k) (found .step)
   stands =
-      subst (StepThere (length (g .fields)) (length (fm .states)) f (offsetOf table state k)) (ap (λ i. stepOf fm i k) (sym here) ∙ found .found) (charted g fm f table kinds up s .stands state k h) .1
+      subst (λ (at : ℕ). StepAt (length (g .fields)) (length (fm .states)) f at (found .step)) (sym (fires-stands g fm f table kinds up event s n l t w k h d e))
+      (subst (StepThere (length (g .fields)) (length (fm .states)) f (offsetOf (stepTable fm) (t .state) k)) (found .found) (charted g fm f (stepTable fm) kinds up (s .setting) .stands (t .state) k h) .1)
 
-  pub target-inside : offsetOf table state k < length f
-  target-inside = inside (length (g .fields)) (length (fm .states)) f (offsetOf table state k) (found .step) stands
+  pub target-inside : offsetOf table (t .state) k < length f
+  target-inside = inside (length (g .fields)) (length (fm .states)) f (offsetOf table (t .state) k) (found .step) stands
 
   target-left : d .state ≡ found .step .target
   unfolding leave
@@ -40,7 +44,7 @@ module _ (g : Log) (fm : Formula) (f table kinds : List ℕ) (up : List Bool) (s
   unfolding stepCommands
   target-declared = stands .exist .0
 
-  pub target-final : leb 2 (getD kinds (getD f (offsetOf table state k + 1) 0) 0) ≡ final fm d
+  pub target-final : leb 2 (getD kinds (getD f (offsetOf table (t .state) k + 1) 0) 0) ≡ final fm d
   target-final =
-      ap (λ i. leb 2 (getD kinds i 0)) (target-byte (length (g .fields)) (length (fm .states)) f (offsetOf table state k) (found .step) stands ∙ sym target-left)
-      ∙ final-at g fm f table kinds up s d (subst (λ i. i < length (fm .states)) (sym target-left) target-declared)
+      ap (λ i. leb 2 (getD kinds i 0)) (target-byte (length (g .fields)) (length (fm .states)) f (offsetOf table (t .state) k) (found .step) stands ∙ sym target-left)
+      ∙ final-at g fm f (stepTable fm) kinds up (s .setting) d (subst (λ i. i < length (fm .states)) (sym target-left) target-declared)

@@ -19,7 +19,7 @@ use Rattle.slots.specs.Words.{list}
 use Rattle.threads.specs.declared.Best.{Best}
 use Rattle.threads.specs.declared.Move.{Move}
 use Rattle.threads.specs.declared.Choice.{Choice}
-use Rattle.threads.specs.Setting.{Setting, Loads, Fit, conf, thread}
+use Rattle.threads.specs.Setting.{Scene, Loads, Fit, conf, thread}
 use Rattle.threads.specs.Event.{bestOf, waitingIn, Kept}
 
 -- ---- one step
@@ -38,17 +38,17 @@ FiredBy (some d) t r = Fired t d r
 -- what step k of the thread's state leaves on the event, if it fires
 abbrev pub FiresIs : List ℕ → List ℕ → Thread → List ℕ → ℕ → Move → Type 0
 FiresIs f table t event k r =
-    (g : Log) (fm : Formula) (kinds : List ℕ) (up : List Bool) (n : ℕ) → Setting g fm f table kinds up → Loads g n event → Fit fm t → k < 8 → FiredBy (fireAt g fm (conf t) n k) t r
+    (g : Log) (fm : Formula) (kinds : List ℕ) (up : List Bool) (n : ℕ) → Scene g fm f table kinds up event → Loads g n event → Fit fm t → k < 8 → FiredBy (fireAt g fm (conf t) n k) t r
 
--- step k of a state leads to a state that accepts or rejects, wherever it fires
+-- where step k of the thread's state fires, it leads to a state that accepts or rejects
 abbrev pub EndsIs : List ℕ → List ℕ → List ℕ → ℕ → ℕ → Bool → Type 0
 EndsIs f table kinds state k r =
-    (g : Log) (fm : Formula) (up : List Bool) → Setting g fm f table kinds up → k < 8 → (n : ℕ) (c d : Config) → c .state ≡ state → fireAt g fm c n k ≡ some d → final fm d ≡ r
+    (g : Log) (fm : Formula) (up : List Bool) (n : ℕ) (event : List ℕ) → Scene g fm f table kinds up event → Loads g n event → k < 8 → (t : Thread) → t .state ≡ state → Fit fm t → (d : Config) → fireAt g fm (conf t) n k ≡ some d → final fm d ≡ r
 
 -- some step of the thread's state is not expired (the paper's hopeless) after the event
 abbrev pub HopefulIs : List ℕ → List ℕ → List Bool → Thread → List ℕ → Bool → Type 0
 HopefulIs f table up t event r =
-    (g : Log) (fm : Formula) (kinds : List ℕ) (n : ℕ) → Setting g fm f table kinds up → Loads g n event → Fit fm t → r ≡ Runs.anyAlive (machine g fm) (conf t) n 8
+    (g : Log) (fm : Formula) (kinds : List ℕ) (n : ℕ) → Scene g fm f table kinds up event → Loads g n event → Fit fm t → r ≡ Runs.anyAlive (machine g fm) (conf t) n 8
 
 -- a thread that a search keeps, with room in its trail for one step more
 pub record Going (fm : Formula) (t : Thread) : Type 0 where
@@ -67,7 +67,7 @@ MovedBy g fm (some d) t n k r = Stepped g fm t n k d r
 
 abbrev pub MovedIs : List ℕ → List ℕ → Thread → ℕ → List ℕ → ℕ → Move → Type 0
 MovedIs f table t n event k r =
-    (g : Log) (fm : Formula) (kinds : List ℕ) (up : List Bool) → Setting g fm f table kinds up → Loads g n event → Going fm t → MovedBy g fm (fireAt g fm (conf t) n k) t n k r
+    (g : Log) (fm : Formula) (kinds : List ℕ) (up : List Bool) → Scene g fm f table kinds up event → Loads g n event → Going fm t → MovedBy g fm (fireAt g fm (conf t) n k) t n k r
 
 -- step k fires on event n
 pub record Fires (g : Log) (fm : Formula) (c : Config) (n k : ℕ) : Type 0 where
@@ -81,7 +81,7 @@ pub record Lowest (g : Log) (fm : Formula) (c : Config) (n k : ℕ) : Type 0 whe
 
 abbrev pub LowestIs : List ℕ → List ℕ → Thread → List ℕ → ℕ → Type 0
 LowestIs f table t event r =
-    (r ≤ 8) × ((g : Log) (fm : Formula) (kinds : List ℕ) (up : List Bool) (n : ℕ) → Setting g fm f table kinds up → Loads g n event → Fit fm t → Lowest g fm (conf t) n r)
+    (r ≤ 8) × ((g : Log) (fm : Formula) (kinds : List ℕ) (up : List Bool) (n : ℕ) → Scene g fm f table kinds up event → Loads g n event → Fit fm t → Lowest g fm (conf t) n r)
 
 -- "In an ordinary state, steps may be passed over. In a committed state the lowest numbered step that fires is taken": the moves
 -- are those of a range of steps
@@ -91,7 +91,7 @@ pub record Chosen (g : Log) (fm : Formula) (t : Thread) (n : ℕ) (r : Choice) :
 
 abbrev pub ChoiceIs : List ℕ → List ℕ → List ℕ → Thread → List ℕ → Choice → Type 0
 ChoiceIs f table kinds t event r =
-    (r .to ≤ 8) × ((g : Log) (fm : Formula) (up : List Bool) (n : ℕ) → Setting g fm f table kinds up → Loads g n event → Fit fm t → Chosen g fm t n r)
+    (r .to ≤ 8) × ((g : Log) (fm : Formula) (up : List Bool) (n : ℕ) → Scene g fm f table kinds up event → Loads g n event → Fit fm t → Chosen g fm t n r)
 
 -- ---- the least run that ends
 
@@ -110,7 +110,7 @@ moveBy g fm t n k = Runs.arrive (machine g fm) (thread g fm t) n k (fireAt g fm 
 
 abbrev pub ImprovedIs : List ℕ → List ℕ → List ℕ → Best → Thread → ℕ → List ℕ → ((g : Log) (fm : Formula) → List (Runs.Thread (machine g fm))) → Best → Type 0
 ImprovedIs f table kinds best t n event xs r =
-    (g : Log) (fm : Formula) (up : List Bool) → Setting g fm f table kinds up → Loads g n event → Going fm t → BestFits fm best → Improved g fm best (xs g fm) r
+    (g : Log) (fm : Formula) (up : List Bool) → Scene g fm f table kinds up event → Loads g n event → Going fm t → BestFits fm best → Improved g fm best (xs g fm) r
 
 abbrev pub BetterIs : List ℕ → List ℕ → List ℕ → Best → Thread → ℕ → List ℕ → ℕ → Best → Type 0
 BetterIs f table kinds best t n event k r = ImprovedIs f table kinds best t n event (λ g fm. moveBy g fm t n k) r
@@ -135,7 +135,7 @@ Within g fm half slots ths bs after r =
 -- the same, where a thread has the property, into the list of so many threads that stood in the half
 abbrev pub InsertedIs : List ℕ → List ℕ → List ℕ → List Bool → ℕ → ℕ → ℕ → ℕ → List ℕ → (Formula → Type 0) → ((g : Log) (fm : Formula) → List (Runs.Thread (machine g fm))) → List ℕ → List ℕ → ℕ → Type 0
 InsertedIs f table kinds up half count slots n event Q bs before after r =
-    (g : Log) (fm : Formula) → Setting g fm f table kinds up → Loads g n event → Kept fm half count before → Q fm → Within g fm half slots (waitingIn g fm half count before) (bs g fm) after r
+    (g : Log) (fm : Formula) → Scene g fm f table kinds up event → Loads g n event → Kept fm half count before → Q fm → Within g fm half slots (waitingIn g fm half count before) (bs g fm) after r
 
 -- the thread, if some step of its state is not expired
 abbrev pub WaitsIs : List ℕ → List ℕ → List Bool → ℕ → ℕ → ℕ → List ℕ → Thread → List ℕ → List ℕ → ℕ → Type 0

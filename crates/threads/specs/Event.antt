@@ -15,7 +15,7 @@ use Rattle.machine.specs.Machine.{machine}
 use Rattle.slots.specs.declared.Thread.{Thread}
 use Rattle.slots.specs.Words.{list}
 use Rattle.threads.specs.declared.Best.{Best}
-use Rattle.threads.specs.Setting.{Setting, Loads, Fit, thread}
+use Rattle.threads.specs.Setting.{Scene, Loads, Fit, thread}
 
 -- the least thread so far, if there is one
 abbrev pub bestBy : (g : Log) (fm : Formula) → Bool → Thread → Option (Runs.Thread (machine g fm))
@@ -37,7 +37,7 @@ pub record Kept (fm : Formula) (half count : ℕ) (work : List ℕ) : Type 0 whe
 -- the least run that ends on event n, of the threads that wait in one half
 abbrev pub EndingIs : List ℕ → List ℕ → List ℕ → List Bool → ℕ → ℕ → List ℕ → ℕ → List ℕ → Best → Type 0
 EndingIs f table kinds up half count work n event r =
-    (g : Log) (fm : Formula) → Setting g fm f table kinds up → Loads g n event → Kept fm half count work
+    (g : Log) (fm : Formula) → Scene g fm f table kinds up event → Loads g n event → Kept fm half count work
     → (bestOf g fm r ≡ Runs.least (machine g fm) (Runs.endings (machine g fm) n (waitingIn g fm half count work))) × (r .found ≡ true → Fit fm (r .thread))
 
 -- the next waiting list stands in the other half, or it has more threads than there are slots
@@ -48,4 +48,4 @@ AdvancedTo g fm half count slots n before after r =
 
 abbrev pub AdvancedIs : List ℕ → List ℕ → List ℕ → List Bool → ℕ → ℕ → ℕ → List ℕ → List ℕ → ℕ → List ℕ → ℕ → Type 0
 AdvancedIs f table kinds up half count slots before after n event r =
-    (g : Log) (fm : Formula) → Setting g fm f table kinds up → Loads g n event → Kept fm half count before → AdvancedTo g fm half count slots n before after r
+    (g : Log) (fm : Formula) → Scene g fm f table kinds up event → Loads g n event → Kept fm half count before → AdvancedTo g fm half count slots n before after r

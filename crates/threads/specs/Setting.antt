@@ -1,9 +1,9 @@
 -- What the functions of one event are given of the two files: the formula's bytes and what its reader and the log's reader found.
-use Prim.Native.Nat.{ℕ, _<_, _≤_}
+use Prim.Native.Nat.{ℕ, _+_, _<_, _≤_}
 use mathlib.Core.Path.{_≡_}
-use mathlib.Core.Bool.{Bool, false}
+use mathlib.Core.Bool.{Bool, true, false}
 use mathlib.Core.List.{List, map}
-use lib.ListN.{length}
+use lib.ListN.{length, getD}
 use Rattle.base.specs.Lists.{pad}
 use Rattle.event_log.specs.Log.{Log}
 use Rattle.event_log.specs.Correct as LogCorrect
@@ -12,6 +12,8 @@ use Rattle.formula.specs.Formula.{Formula, State}
 use Rattle.formula.specs.Encode.{encode, kindByte}
 use Rattle.formula.specs.Correct as FormulaCorrect
 use Rattle.formula.specs.Lookup.{stepTable}
+use Rattle.interpreter.specs.declared.Configuration.{Configuration}
+use Rattle.interpreter.specs.Bytes.{fired, lapsed}
 use Rattle.runs.specs.Search as Runs
 use Rattle.machine.specs.Configuration.{Config, Valid, total}
 use Rattle.machine.specs.Machine.{machine, eventAt}
@@ -27,6 +29,38 @@ pub record Setting (g : Log) (fm : Formula) (f table kinds : List ℕ) (up : Lis
   pub table-is : table ≡ stepTable fm
   pub kinds-are : kinds ≡ pad 16 0 (map (λ (s : State). kindByte (s .kind)) (fm .states))
   pub rising-are : up ≡ pad 8 false (map rises (g .fields))
+
+-- what an event's table has for a step that stands at `at`: that offset, or 0 where the step does not fire on the event, whatever
+-- the configuration
+pub data Firing (f event : List ℕ) (at entry : ℕ) : Type 0 where
+  stands : entry ≡ at → Firing f event at entry
+  barred : entry ≡ 0 → ((c : Configuration) → (fired f at c event) .fires ≡ false) → Firing f event at entry
+
+-- and in its second half: that offset, or 0 where the step is expired after the event, whatever the configuration
+pub data Lasting (f : List ℕ) (up : List Bool) (event : List ℕ) (at entry : ℕ) : Type 0 where
+  lasts : entry ≡ at → Lasting f up event at entry
+  due : entry ≡ 0 → ((c : Configuration) → lapsed f at c up event ≡ true) → Lasting f up event at entry
+
+-- the table of an event, from the table of the formula's steps
+pub record EventTable (f steps : List ℕ) (up : List Bool) (event table : List ℕ) : Type 0 where
+  pub sized : length table ≡ 256
+  pub fires : (i : ℕ) → i < 128 → Firing f event (getD steps i 0) (getD table i 0)
+  pub lapses : (i : ℕ) → i < 128 → Lasting f up event (getD steps i 0) (getD table (128 + i) 0)
+
+-- both halves before the event says anything: the table of the formula's steps, twice
+pub record Wide (steps table : List ℕ) : Type 0 where
+  pub sized : length table ≡ 256
+  pub first : (i : ℕ) → i < 128 → getD table i 0 ≡ getD steps i 0
+  pub second : (i : ℕ) → i < 128 → getD table (128 + i) 0 ≡ getD steps i 0
+
+-- what is told of some steps leaves it the event's table
+abbrev pub MarkedIs : List ℕ → List ℕ → List Bool → List ℕ → List ℕ → List ℕ → Type 0
+MarkedIs f steps up event before after = (length after ≡ length before) × (EventTable f steps up event before → EventTable f steps up event after)
+
+-- what the functions of one event are given: the setting, and the event's table
+pub record Scene (g : Log) (fm : Formula) (f table kinds : List ℕ) (up : List Bool) (event : List ℕ) : Type 0 where
+  pub setting : Setting g fm f (stepTable fm) kinds up
+  pub offsets : EventTable f (stepTable fm) up event table
 
 -- the array holds the values of event n
 pub record Loads (g : Log) (n : ℕ) (event : List ℕ) : Type 0 where

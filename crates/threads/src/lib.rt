@@ -1,5 +1,6 @@
 // One event of a search: the runs that end on it, and the waiting list after it, with threads in lent words.
 mod step;
+pub mod table;
 
 use slots::Thread;
 ghost use mathlib.Core.Path.{_≡_};

@@ -82,5 +82,8 @@ pub fn lowest_at(f: &[u8], table: &[usize], t: Thread, event: [u32; 8]) -> u32
 pub fn hopeful_at(f: &[u8], table: &[usize], up: [bool; 8], t: Thread, event: [u32; 8]) -> bool
     ensures { λ r. ⌜ HopefulIs (now (f .entry)) (now (table .entry)) up t event r ⌝ }
 {
-    interpreter::steps::hopeful(f, table, configuration_of(t), up, event)
+    if table.len() < 128 {
+        return false;
+    }
+    interpreter::steps::hopeful(f, &table[128..], configuration_of(t), up, event)
 }

@@ -14,7 +14,7 @@ use Rattle.machine.specs.Machine.{machine}
 use Rattle.slots.specs.Words.{threadsFrom}
 use Rattle.threads.specs.Calls.{Grown}
 use Rattle.threads.specs.Event.{waitingIn, Kept}
-use Rattle.threads.specs.Setting.{Setting, Loads, thread}
+use Rattle.threads.specs.Setting.{Scene, Loads, thread}
 use Rattle.threads.proofs.Waiting.{Left, left-next, left-stopped, left-none, left-as, candidates-next, candidates-none, grown-same, grown-then}
 use Rattle.threads.proofs.Listed.{kept-at, thread-stays}
 use Rattle.threads.proofs.advance.Statement.{statement}
@@ -23,7 +23,7 @@ use Rattle.threads.proofs.advance.Tie as tie
 abbrev Inv-loop : tie.InvT-loop
 Inv-loop work₀ half count slots f table kinds up n event other len₀ j₀ work len j =
     (j ≤ count) × (len ≤ slots) × Grown other slots work₀ work len
-    × ((g : Log) (fm : Formula) → Setting g fm f table kinds up → Loads g n event → Kept fm half count work₀
+    × ((g : Log) (fm : Formula) → Scene g fm f table kinds up event → Loads g n event → Kept fm half count work₀
     → Left g fm other slots (insertWithin (machine g fm) slots [] (candidates (machine g fm) n (waitingIn g fm half count work₀))) (candidates (machine g fm) n (drop j (waitingIn g fm half count work₀))) work len)
 
 abbrev μ-loop : tie.MeasureT-loop

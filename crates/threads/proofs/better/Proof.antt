@@ -1,7 +1,6 @@
 -- One step more: a run that it ends is kept if it is the first or comes before the best so far.
 use mathlib.Core.Path.{refl, sym, _∙_}
 use borrow.Author.Tests.{not-true, not-false}
-use Rattle.threads.specs.Setting.{conf}
 use Rattle.threads.proofs.Endings.{better-past, better-silent, better-first, better-earlier, better-kept}
 use Rattle.threads.proofs.Waiting.{move-final}
 use borrow.Author.Needs.{needs}
@@ -19,7 +18,7 @@ ends-by-requires c κs = search needs
 returns : tie.Need-returns
 returns c =
     let a = c .before .before .before .before .before .args in
-    λ g fm up s l go ok. better-past g fm (a .best) ok (a .t) (a .n) (a .k) (λ d e. c .before .ends-by .ensures g fm up s (c .before .before .before .before .before .pre .1) (a .n) (conf (a .t)) d refl e ∙ not-true _ (c .if1 .taken))
+    λ g fm up s l go ok. better-past g fm (a .best) ok (a .t) (a .n) (a .k) (λ d e. c .before .ends-by .ensures g fm up (a .n) (a .event) s l (c .before .before .before .before .before .pre .1) (a .t) refl (go .fit) d e ∙ not-true _ (c .if1 .taken))
 
 moved-requires : tie.Need-moved-requires
 moved-requires c κs = search needs
@@ -39,7 +38,7 @@ returns-3 c =
     let fires = not-false _ (c .before .before .before .before .if2 .left) in
     λ g fm up s l go ok.
     let h = c .before .before .before .before .before .before .before .moved .ensures g fm _ up s l go in
-    let ends = move-final g fm (a .t) (a .n) (a .k) m h fires (λ d e. c .before .before .before .before .before .before .before .before .before .ends-by .ensures g fm up s (c .before .before .before .before .before .before .before .before .before .before .before .before .before .pre .1) (a .n) (conf (a .t)) d refl e ∙ not-false _ (c .before .before .before .before .before .before .before .before .if1 .left)) in
+    let ends = move-final g fm (a .t) (a .n) (a .k) m h fires (λ d e. c .before .before .before .before .before .before .before .before .before .ends-by .ensures g fm up (a .n) (a .event) s l (c .before .before .before .before .before .before .before .before .before .before .before .before .before .pre .1) (a .t) refl (go .fit) d e ∙ not-false _ (c .before .before .before .before .before .before .before .before .if1 .left)) in
     better-kept g fm (a .best) ok (a .t) (a .n) (a .k) m h fires ends (c .before .before .before .if3 .taken) (sym (c .before .later .ensures) ∙ not-true _ (c .if4 .taken))
 
 returns-4 : tie.Need-returns-4
@@ -49,7 +48,7 @@ returns-4 c =
     let fires = not-false _ (c .before .before .before .before .if2 .left) in
     λ g fm up s l go ok.
     let h = c .before .before .before .before .before .before .before .moved .ensures g fm _ up s l go in
-    let ends = move-final g fm (a .t) (a .n) (a .k) m h fires (λ d e. c .before .before .before .before .before .before .before .before .before .ends-by .ensures g fm up s (c .before .before .before .before .before .before .before .before .before .before .before .before .before .pre .1) (a .n) (conf (a .t)) d refl e ∙ not-false _ (c .before .before .before .before .before .before .before .before .if1 .left)) in
+    let ends = move-final g fm (a .t) (a .n) (a .k) m h fires (λ d e. c .before .before .before .before .before .before .before .before .before .ends-by .ensures g fm up (a .n) (a .event) s l (c .before .before .before .before .before .before .before .before .before .before .before .before .before .pre .1) (a .t) refl (go .fit) d e ∙ not-false _ (c .before .before .before .before .before .before .before .before .if1 .left)) in
     better-earlier g fm (a .best) ok (a .t) (a .n) (a .k) m h fires ends (c .before .before .before .if3 .taken) (sym (c .before .later .ensures) ∙ not-false _ (c .if4 .left))
 
 returns-5 : tie.Need-returns-5
@@ -59,7 +58,7 @@ returns-5 c =
     let fires = not-false _ (c .before .if2 .left) in
     λ g fm up s l go ok.
     let h = c .before .before .before .before .moved .ensures g fm _ up s l go in
-    let ends = move-final g fm (a .t) (a .n) (a .k) m h fires (λ d e. c .before .before .before .before .before .before .ends-by .ensures g fm up s (c .before .before .before .before .before .before .before .before .before .before .pre .1) (a .n) (conf (a .t)) d refl e ∙ not-false _ (c .before .before .before .before .before .if1 .left)) in
+    let ends = move-final g fm (a .t) (a .n) (a .k) m h fires (λ d e. c .before .before .before .before .before .before .ends-by .ensures g fm up (a .n) (a .event) s l (c .before .before .before .before .before .before .before .before .before .before .pre .1) (a .t) refl (go .fit) d e ∙ not-false _ (c .before .before .before .before .before .if1 .left)) in
     better-first g fm (a .best) ok (a .t) (a .n) (a .k) m h fires ends (c .if3 .left)
 
 pub better-spec : {M : Type 1} → statement M

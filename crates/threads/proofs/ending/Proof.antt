@@ -13,7 +13,7 @@ use Rattle.runs.specs.Search as Runs
 use Rattle.machine.specs.Machine.{machine}
 use Rattle.threads.specs.Calls.{BestFits}
 use Rattle.threads.specs.Event.{bestOf, waitingIn, Kept}
-use Rattle.threads.specs.Setting.{Setting, Loads}
+use Rattle.threads.specs.Setting.{Scene, Loads}
 use Rattle.threads.proofs.Endings.{ending-next, ending-done}
 use Rattle.threads.proofs.Listed.{kept-at}
 use Rattle.threads.proofs.ending.Statement.{statement}
@@ -22,7 +22,7 @@ use Rattle.threads.proofs.ending.Tie as tie
 abbrev Inv-loop : tie.InvT-loop
 Inv-loop work half count f table kinds n event best₀ j₀ best j =
     (j ≤ count)
-    × ((g : Log) (fm : Formula) (up : List Bool) → Setting g fm f table kinds up → Loads g n event → Kept fm half count work
+    × ((g : Log) (fm : Formula) (up : List Bool) → Scene g fm f table kinds up event → Loads g n event → Kept fm half count work
     → (Runs.least (machine g fm) (Runs.endings (machine g fm) n (waitingIn g fm half count work))
     ≡ Runs.leastFrom (machine g fm) (bestOf g fm best) (Runs.endings (machine g fm) n (drop j (waitingIn g fm half count work))))
     × BestFits fm best)

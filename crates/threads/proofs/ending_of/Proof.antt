@@ -12,14 +12,14 @@ use Rattle.runs.specs.Search as Runs
 use Rattle.machine.specs.Machine.{machine}
 use Rattle.threads.specs.Calls.{Going, BestFits, Improved}
 use Rattle.threads.specs.Event.{bestOf}
-use Rattle.threads.specs.Setting.{Setting, Loads, thread}
+use Rattle.threads.specs.Setting.{Scene, Loads, thread}
 use Rattle.threads.proofs.Endings.{improved-next, improved-done}
 use Rattle.threads.proofs.ending_of.Statement.{statement}
 use Rattle.threads.proofs.ending_of.Tie as tie
 
 abbrev Inv-loop : tie.InvT-loop
 Inv-loop t f table kinds n event to least₀ k₀ least k =
-    (g : Log) (fm : Formula) (up : List Bool) → Setting g fm f table kinds up → Loads g n event → Going fm t → BestFits fm least₀
+    (g : Log) (fm : Formula) (up : List Bool) → Scene g fm f table kinds up event → Loads g n event → Going fm t → BestFits fm least₀
     → (Runs.leastFrom (machine g fm) (bestOf g fm least₀) (keep (Runs.ended (machine g fm)) (Runs.firing (machine g fm) (thread g fm t) n k₀ (to - k₀)))
     ≡ Runs.leastFrom (machine g fm) (bestOf g fm least) (keep (Runs.ended (machine g fm)) (Runs.firing (machine g fm) (thread g fm t) n k (to - k))))
     × BestFits fm least

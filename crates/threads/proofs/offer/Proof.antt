@@ -16,7 +16,7 @@ returns c =
     let a = c .before .before .before .before .before .before .args in
     let w = now (a .work) in (
       grown-same (a .half) (a .slots) (a .count) w (c .before .before .before .before .before .before .pre .2),
-      λ n g fm s l k h. within-none g fm (a .half) (a .slots) (a .count) w _ (offered-final g fm n (a .b) h (sym (final-word g fm _ _ _ _ s (a .b) h) ∙ sym (c .before .is-final .ensures) ∙ c .if1 .taken)) (c .before .before .before .before .before .before .pre .2) k,
+      λ n g fm s l k h. within-none g fm (a .half) (a .slots) (a .count) w _ (offered-final g fm n (a .b) h (sym (final-word g fm _ _ _ _ (s .setting) (a .b) h) ∙ sym (c .before .is-final .ensures) ∙ c .if1 .taken)) (c .before .before .before .before .before .before .pre .2) k,
     )
 
 returns-2 : tie.Need-returns-2
@@ -38,7 +38,7 @@ returns-3 c =
     let a = c .before .before .before .before .before .before .before .before .before .before .before .before .args in
     let w = now (a .work) in (
       c .before .before .wait .ensures .0,
-      λ n g fm s l k h. within-as g fm (a .half) (a .slots) (waitingIn g fm (a .half) (a .count) w) _ _ (c .before .before .wait .last .0) (c .before .before .wait .result) (offered-open g fm n (a .b) h (sym (final-word g fm _ _ _ _ s (a .b) h) ∙ sym (c .before .before .before .before .before .before .before .is-final .ensures) ∙ c .before .before .before .before .before .before .if1 .left) (c .before .before .before .before .if2 .left)) (c .before .before .wait .ensures .1 _ n g fm s l k (record { fit = h; short = c .before .before .before .before .if2 .left })),
+      λ n g fm s l k h. within-as g fm (a .half) (a .slots) (waitingIn g fm (a .half) (a .count) w) _ _ (c .before .before .wait .last .0) (c .before .before .wait .result) (offered-open g fm n (a .b) h (sym (final-word g fm _ _ _ _ (s .setting) (a .b) h) ∙ sym (c .before .before .before .before .before .before .before .is-final .ensures) ∙ c .before .before .before .before .before .before .if1 .left) (c .before .before .before .before .if2 .left)) (c .before .before .wait .ensures .1 _ n g fm s l k (record { fit = h; short = c .before .before .before .before .if2 .left })),
     )
 
 pub offer-spec : {M : Type 1} → statement M

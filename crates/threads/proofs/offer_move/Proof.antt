@@ -2,7 +2,6 @@
 use mathlib.Core.Path.{refl, ap, _∙_}
 use denote.Ref.{now}
 use Rattle.runs.specs.Lists.{keep}
-use Rattle.threads.specs.Setting.{conf}
 use Rattle.threads.specs.Event.{waitingIn}
 use Rattle.threads.specs.Calls.{offered}
 use Rattle.threads.proofs.Waiting.{grown-same, within-none, within-as, move-silent, move-fires, offered-past}
@@ -23,7 +22,7 @@ returns c =
     let a = c .before .before .before .before .before .before .args in
     let w = now (a .work) in (
       grown-same (a .half) (a .slots) (a .count) w (c .before .before .before .before .before .before .pre .2),
-      λ g fm s l k go. within-none g fm (a .half) (a .slots) (a .count) w _ (offered-past g fm (a .t) (a .n) (a .k) (λ d e. c .before .ends-by .ensures g fm _ s (c .before .before .before .before .before .before .pre .4) (a .n) (conf (a .t)) d refl e ∙ c .if1 .taken)) (c .before .before .before .before .before .before .pre .2) k,
+      λ g fm s l k go. within-none g fm (a .half) (a .slots) (a .count) w _ (offered-past g fm (a .t) (a .n) (a .k) (λ d e. c .before .ends-by .ensures g fm _ (a .n) (a .event) s l (c .before .before .before .before .before .before .pre .4) (a .t) refl (go .fit) d e ∙ c .if1 .taken)) (c .before .before .before .before .before .before .pre .2) k,
     )
 
 moved-requires : tie.Need-moved-requires

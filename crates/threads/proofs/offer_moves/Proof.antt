@@ -10,7 +10,7 @@ use Rattle.runs.specs.Search as Runs
 use Rattle.machine.specs.Machine.{machine}
 use Rattle.threads.specs.Calls.{Going, Grown, offered, moveBy}
 use Rattle.threads.specs.Event.{waitingIn, Kept}
-use Rattle.threads.specs.Setting.{Setting, Loads, thread}
+use Rattle.threads.specs.Setting.{Scene, Loads, thread}
 use Rattle.threads.proofs.Waiting.{Left, left-next, left-stopped, left-none, left-as, offers-next, offers-done, grown-same, grown-then}
 use Rattle.threads.proofs.offer_moves.Statement.{statement}
 use Rattle.threads.proofs.offer_moves.Tie as tie
@@ -18,7 +18,7 @@ use Rattle.threads.proofs.offer_moves.Tie as tie
 abbrev Inv-loop : tie.InvT-loop
 Inv-loop work₀ half count slots f table kinds up n event t choice len₀ k₀ work len k =
     (len ≤ slots) × Grown half slots work₀ work len
-    × ((g : Log) (fm : Formula) → Setting g fm f table kinds up → Loads g n event → Kept fm half count work₀ → Going fm t
+    × ((g : Log) (fm : Formula) → Scene g fm f table kinds up event → Loads g n event → Kept fm half count work₀ → Going fm t
     → Left g fm half slots (insertWithin (machine g fm) slots (waitingIn g fm half count work₀) (offered g fm n (Runs.firing (machine g fm) (thread g fm t) n (choice .from) (choice .to - choice .from)))) (offered g fm n (Runs.firing (machine g fm) (thread g fm t) n k (choice .to - k))) work len)
 
 abbrev μ-loop : tie.MeasureT-loop

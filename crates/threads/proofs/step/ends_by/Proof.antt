@@ -1,6 +1,7 @@
 -- `threads::ends_by` meets its contract: the byte behind the step's command is its target.
+use Rattle.machine.specs.Machine.{final}
 use native.Mathlib.Omega.{arith}
-use Prim.Native.Nat.{_+_}
+use Prim.Native.Nat.{_+_, _<_}
 use mathlib.Core.Path.{_≡_, ap, sym, _∙_}
 use denote.Ref.{now}
 use lib.ListN.{length, getD}
@@ -31,14 +32,17 @@ is-final-requires c κs = search needs
 returns : tie.Need-returns
 returns c =
     let a = c .before .before .before .before .before .before .before .args in
-    let at = c .before .before .before .step-offset .ensures in
-    let e : c .is-final .result ≡ leb 2 (getD (now (a .kinds)) (getD (now (a .f)) (offsetOf (now (a .table)) (a .state) (a .k) + 1) 0) 0) = c .is-final .ensures ∙ ap (λ i. leb 2 (getD (now (a .kinds)) i 0)) (c .before .byte-at .ensures .0 ∙ ap (λ i. getD (now (a .f)) (i + 1) 0) at) in
-    λ g fm up s h n x d i q. sym (e ∙ target-final g fm (now (a .f)) (now (a .table)) (now (a .kinds)) up s (a .state) (a .k) h n x d i q)
+    let e : c .is-final .result ≡ leb 2 (getD (now (a .kinds)) (getD (now (a .f)) (offsetOf (now (a .table)) (a .state) (a .k) + 1) 0) 0) = c .is-final .ensures ∙ ap (λ i. leb 2 (getD (now (a .kinds)) i 0)) (c .before .byte-at .ensures .0 ∙ ap (λ i. getD (now (a .f)) (i + 1) 0) (c .before .before .before .step-offset .ensures)) in
+    λ g fm up n event s l h t i w d q.
+    let at : leb 2 (getD (now (a .kinds)) (getD (now (a .f)) (offsetOf (now (a .table)) (a .state) (a .k) + 1) 0) 0) ≡ final fm d = rw i at (target-final g fm (now (a .f)) (now (a .table)) (now (a .kinds)) up event s n l t w (a .k) h d q) in
+    sym (e ∙ at)
 
 returns-2 : tie.Need-returns-2
 returns-2 c =
     let a = c .before .before .before .before .before .args in
-    λ g fm up s h n x d i q. absurd (omega (arith, target-inside g fm (now (a .f)) (now (a .table)) (now (a .kinds)) up s (a .state) (a .k) h n x d i q, c .before .step-offset .ensures, c .if1 .left))
+    λ g fm up n event s l h t i w d q.
+    let at : offsetOf (now (a .table)) (a .state) (a .k) < length (now (a .f)) = rw i at (target-inside g fm (now (a .f)) (now (a .table)) (now (a .kinds)) up event s n l t w (a .k) h d q) in
+    absurd (omega (arith, at, c .before .step-offset .ensures, c .if1 .left))
 
 pub ends-by-spec : {M : Type 1} → statement M
 ends-by-spec =

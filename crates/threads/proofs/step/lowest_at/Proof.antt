@@ -1,17 +1,13 @@
--- `threads::lowest_at` meets its contract: where the setting stands, the code's lowest step that fires is the machine's.
+-- `threads::lowest_at` meets its contract: where the scene stands, the code's lowest step that fires is the machine's.
 use native.Mathlib.Omega.{arith}
 use mathlib.Core.Path.{_≡_, sym, subst}
-use lib.ListN.{length}
 use denote.Ref.{now}
 use Rattle.threads.specs.Setting.{conf}
 use Rattle.threads.specs.Calls.{Lowest}
-use Rattle.machine.specs.Configuration.{Config}
-use Rattle.machine.specs.Machine.{fireAt}
 use Rattle.interpreter.specs.Bytes.{firesAt, lowestOf}
-use Rattle.interpreter.proofs.CodeMachine.{isFired, lowest-means, lowest-machine}
-use Rattle.interpreter.proofs.CodeMachine as Code
+use Rattle.interpreter.proofs.CodeMachine.{lowest-means}
 use Rattle.threads.proofs.Choices.{lowest-found}
-use Rattle.threads.proofs.Charts.{charted, event-fields, ready-of}
+use Rattle.threads.proofs.Tables.{lowest-here}
 use borrow.Author.Needs.{needs}
 use Rattle.threads.proofs.step.lowest_at.Statement.{statement}
 use Rattle.threads.proofs.step.lowest_at.Tie as tie
@@ -36,10 +32,7 @@ returns c =
     let p = firesAt (now (a .f)) (now (a .table)) d (a .event) in
     let e : c .lowest .result ≡ lowestOf p = c .lowest .ensures in (
       omega (arith, lowest-means p .most),
-      λ g fm kinds up n s l h.
-          let r = ready-of fm (a .t) d (c .before .configuration-of .ensures) h (s .formula .states) in
-          let low = lowest-machine g fm (length (g .fields)) (length (fm .states)) (now (a .f)) (now (a .table)) (charted g fm (now (a .f)) (now (a .table)) kinds up s) d r n (a .event) (event-fields g fm (now (a .f)) (now (a .table)) kinds up s n (a .event) l) in
-          subst (Lowest g fm (conf (a .t)) n) (sym e) (lowest-found g fm (a .t) n (lowestOf p) (subst (λ (x : Config). Code.Lowest (λ k. isFired (fireAt g fm x n k)) (lowestOf p)) (c .before .configuration-of .ensures) low)),
+      λ g fm kinds up n s l h. subst (Lowest g fm (conf (a .t)) n) (sym e) (lowest-found g fm (a .t) n (lowestOf p) (lowest-here g fm (now (a .f)) (now (a .table)) kinds up (a .event) s n l (a .t) h d (c .before .configuration-of .ensures))),
     )
 
 pub lowest-at-spec : {M : Type 1} → statement M

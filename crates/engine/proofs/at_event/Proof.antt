@@ -1,0 +1,54 @@
+-- `engine::at_event` meets its contract: what the event alone says is told in its table, then it is the event.
+use denote.Ref.{now}
+use Rattle.threads.proofs.Marking.{wide-table}
+use Rattle.engine.proofs.Turns.{turn-of}
+use borrow.Author.Needs.{needs}
+use Rattle.engine.proofs.at_event.Statement.{statement}
+use Rattle.engine.proofs.at_event.Tie as tie
+use Rattle.engine.proofs.at_event.Reads as reads
+use Rattle.engine.proofs.at_event.Lts as lts
+use Rattle.engine.proofs.one_event.Reads as one-event-reads
+use Rattle.threads.proofs.table.mark_states.Reads as mark-states-reads
+
+slice-aggregate-mark-states : tie.Need-slice-aggregate-mark-states
+slice-aggregate-mark-states c = search needs
+
+slice-aggregate-mark-states-2 : tie.Need-slice-aggregate-mark-states-2
+slice-aggregate-mark-states-2 c = search needs
+
+slice-aggregate-mark-states-3 : tie.Need-slice-aggregate-mark-states-3
+slice-aggregate-mark-states-3 c = search needs
+
+mark-states-requires : tie.Need-mark-states-requires
+mark-states-requires c κs = search needs
+
+slice-aggregate-one-event : tie.Need-slice-aggregate-one-event
+slice-aggregate-one-event c = search needs
+
+one-event-requires : tie.Need-one-event-requires
+one-event-requires c κs = search needs
+
+same-length : tie.Need-same-length
+same-length c = search needs
+
+returns : tie.Need-returns
+returns c =
+    let a = c .before .before .before .before .before .before .before .before .before .before .before .before .before .before .before .args in
+    let told = c .before .before .before .before .before .before .mark-states .ensures in
+    let o = c .before .before .one-event .ensures in (
+      λ w. turn-of (now (a .f)) (now (a .steps)) (now (a .kinds)) (a .t9) (a .half) (a .count) (a .slots) (now (a .work)) (c .before .before .one-event .last .0) (a .n) (a .t11) _ (c .before .before .one-event .result) (told .1 (wide-table (now (a .f)) (now (a .steps)) (a .t9) (a .t11) (a .wide) w)) (o .0),
+      o .1,
+    )
+
+pub at-event-spec : {M : Type 1} → statement M
+at-event-spec =
+    tie.close
+    (tie.spec
+    slice-aggregate-mark-states
+    slice-aggregate-mark-states-2
+    slice-aggregate-mark-states-3
+    mark-states-requires
+    slice-aggregate-one-event
+    one-event-requires
+    same-length
+    returns)

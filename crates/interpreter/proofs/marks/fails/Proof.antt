@@ -1,0 +1,59 @@
+-- `marks::fails` meets its contract: the clause's operands are read where they stand.
+use denote.Ref.{now}
+use Rattle.interpreter.proofs.CodeMarks.{fails-other, fails-read}
+use borrow.Author.Needs.{needs}
+use Rattle.interpreter.proofs.marks.fails.Statement.{statement}
+use Rattle.interpreter.proofs.marks.fails.Tie as tie
+
+returns : tie.Need-returns
+returns c = fails-other (now (c .before .before .before .args .f)) (c .before .before .before .args .command) (c .before .before .before .args .place) (now (c .before .before .before .args .event)) (c .if1 .taken)
+
+add-wide : tie.Need-add-wide
+add-wide c = search needs
+
+shared-slice-read-wide : tie.Need-shared-slice-read-wide
+shared-slice-read-wide c = search needs
+
+wide-requires : tie.Need-wide-requires
+wide-requires c κs = search needs
+
+value-in-requires : tie.Need-value-in-requires
+value-in-requires c κs = search needs
+
+add-wide-2 : tie.Need-add-wide-2
+add-wide-2 c = search needs
+
+shared-slice-read-wide-2 : tie.Need-shared-slice-read-wide-2
+shared-slice-read-wide-2 c = search needs
+
+wide-requires-2 : tie.Need-wide-requires-2
+wide-requires-2 c κs = search needs
+
+add-value-inside : tie.Need-add-value-inside
+add-value-inside c = search needs
+
+value-inside-requires : tie.Need-value-inside-requires
+value-inside-requires c κs = search needs
+
+holds-requires : tie.Need-holds-requires
+holds-requires c κs = search needs
+
+returns-2 : tie.Need-returns-2
+returns-2 c = fails-read (now (c .before .before .before .before .before .before .before .before .before .before .args .f)) (c .before .before .before .before .before .before .before .before .before .before .args .place) (now (c .before .before .before .before .before .before .before .before .before .before .args .event)) (c .before .before .before .before .before .wide .result) (c .before .before .before .before .value-in .result) (c .before .before .wide2 .result) (c .before .value-inside .result) (c .before .before .before .before .before .wide .ensures .0) (c .before .before .before .before .value-in .ensures) (c .before .before .wide2 .ensures .0) (c .before .value-inside .ensures) (c .before .before .before .before .before .before .before .before .before .before .args .command) (c .holds .result) (c .before .before .before .before .before .before .before .if1 .left) (c .holds .ensures)
+
+pub fails-spec : {M : Type 1} → statement M
+fails-spec =
+    tie.close
+    (tie.spec
+    returns
+    add-wide
+    shared-slice-read-wide
+    wide-requires
+    value-in-requires
+    add-wide-2
+    shared-slice-read-wide-2
+    wide-requires-2
+    add-value-inside
+    value-inside-requires
+    holds-requires
+    returns-2)

@@ -1,0 +1,31 @@
+-- `threads::mark_once` meets its contract: a state that is new is one of the 16.
+use borrow.Author.Needs.{needs}
+use Rattle.threads.proofs.table.mark_once.Statement.{statement}
+use Rattle.threads.proofs.table.mark_once.Tie as tie
+use Rattle.threads.proofs.table.mark_once.Reads as reads
+use Rattle.threads.proofs.table.mark_once.Lts as lts
+use Rattle.threads.proofs.table.is_new.Reads as is-new-reads
+use Rattle.threads.proofs.table.mark_state.Reads as mark-state-reads
+
+is-new-requires : tie.Need-is-new-requires
+is-new-requires c κs = search needs
+
+mark-state-requires : tie.Need-mark-state-requires
+mark-state-requires c κs = (c .before .before .before .before .before .before .before .before .pre, c .before .before .is-new .ensures (c .before .if1 .taken))
+
+array-write-more : tie.Need-array-write-more
+array-write-more c = c .before .before .before .before .before .is-new .ensures (c .before .before .before .before .if1 .taken)
+
+same-length : tie.Need-same-length
+same-length c = search needs
+
+returns : tie.Need-returns
+returns c = search needs
+
+returns-2 : tie.Need-returns-2
+returns-2 c = search needs
+
+pub mark-once-spec : {M : Type 1} → statement M
+mark-once-spec =
+    tie.close
+    (tie.spec is-new-requires mark-state-requires array-write-more same-length returns returns-2)

@@ -1,0 +1,61 @@
+-- `threads::mark_state` meets its contract: each turn leaves it the event's table.
+use native.Mathlib.Omega.{arith}
+use Prim.Native.Nat.{_-_, _≤_}
+use mathlib.Core.Path.{refl, _∙_}
+use denote.Ref.{now}
+use lib.ListN.{length}
+use Rattle.threads.specs.Setting.{MarkedIs}
+use Rattle.threads.proofs.table.mark_state.Statement.{statement}
+use Rattle.threads.proofs.table.mark_state.Tie as tie
+use Rattle.threads.proofs.table.mark_state.Reads as reads
+use Rattle.threads.proofs.table.mark_state.Lts as lts
+use Rattle.threads.proofs.table.mark_entry.Reads as mark-entry-reads
+
+abbrev Inv-loop : tie.InvT-loop
+Inv-loop table₀ s f steps up event k₀ table k = (k ≤ 8) × MarkedIs f steps up event table₀ table
+
+abbrev μ-loop : tie.MeasureT-loop
+μ-loop table₀ s f steps up event k₀ table k = 8 - k
+
+loop-holds : tie.Need-loop-holds Inv-loop μ-loop
+loop-holds c = (omega arith, (refl, λ e. e))
+
+mul-mark-entry : tie.Need-mul-mark-entry Inv-loop μ-loop
+mul-mark-entry c = omega (arith, c .before .before .before .before .before .before .before .before .pre)
+
+add-mark-entry : tie.Need-add-mark-entry Inv-loop μ-loop
+add-mark-entry c = omega (arith, c .before .before .before .before .before .before .before .before .pre, c .before .loop-test .taken)
+
+mark-entry-requires : tie.Need-mark-entry-requires Inv-loop μ-loop
+mark-entry-requires c κs = (omega (arith, c .before .before .before .before .before .before .before .before .pre, c .before .before .loop .inv .1 .0), omega (arith, c .before .before .before .before .before .before .before .before .pre, c .before .loop-test .taken))
+
+add-k : tie.Need-add-k Inv-loop μ-loop
+add-k c = omega arith
+
+loop-less : tie.Need-loop-less Inv-loop μ-loop
+loop-less c = omega arith
+
+loop-again : tie.Need-loop-again Inv-loop μ-loop
+loop-again c = (omega arith, (c .before .before .mark-entry .ensures .0 ∙ c .before .before .before .before .before .loop .inv .1 .0, λ e. c .before .before .mark-entry .ensures .1 (c .before .before .before .before .before .loop .inv .1 .1 e)))
+
+same-length : tie.Need-same-length Inv-loop μ-loop
+same-length c = c .before .loop .inv .1 .0
+
+returns : tie.Need-returns Inv-loop μ-loop
+returns c = c .before .loop .inv .1
+
+pub mark-state-spec : {M : Type 1} → statement M
+mark-state-spec =
+    tie.close
+    (tie.spec
+    Inv-loop
+    μ-loop
+    loop-holds
+    mul-mark-entry
+    add-mark-entry
+    mark-entry-requires
+    add-k
+    loop-less
+    loop-again
+    same-length
+    returns)

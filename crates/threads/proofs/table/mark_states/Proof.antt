@@ -1,0 +1,63 @@
+-- `threads::mark_states` meets its contract: each turn leaves it the event's table.
+use borrow.Author.Needs.{needs}
+use native.Mathlib.Omega.{arith}
+use Prim.Native.Nat.{_-_, _≤_}
+use mathlib.Core.Path.{refl, _∙_}
+use denote.Ref.{now}
+use lib.ListN.{length}
+use Rattle.threads.specs.Setting.{MarkedIs}
+use Rattle.threads.proofs.table.mark_states.Statement.{statement}
+use Rattle.threads.proofs.table.mark_states.Tie as tie
+use Rattle.threads.proofs.table.mark_states.Reads as reads
+use Rattle.threads.proofs.table.mark_states.Lts as lts
+use Rattle.slots.proofs.state_at.Reads as state-at-reads
+use Rattle.threads.proofs.table.mark_once.Reads as mark-once-reads
+
+abbrev Inv-loop : tie.InvT-loop
+Inv-loop table₀ work half count f steps up event done₀ j₀ table done j = (j ≤ count) × MarkedIs f steps up event table₀ table
+
+abbrev μ-loop : tie.MeasureT-loop
+μ-loop table₀ work half count f steps up event done₀ j₀ table done j = count - j
+
+loop-holds : tie.Need-loop-holds Inv-loop μ-loop
+loop-holds c = (omega arith, (refl, λ e. e))
+
+state-at-requires : tie.Need-state-at-requires Inv-loop μ-loop
+state-at-requires c κs = (omega (arith, c .before .before .before .before .before .before .before .before .pre, c .loop-test .taken), c .before .before .before .before .before .before .before .before .pre .2)
+
+cast-s : tie.Need-cast-s Inv-loop μ-loop
+cast-s c = search needs
+
+mark-once-requires : tie.Need-mark-once-requires Inv-loop μ-loop
+mark-once-requires c κs = c .before .before .before .loop .inv .1 .0 ∙ c .before .before .before .before .before .before .before .before .before .before .pre .0
+
+add-j : tie.Need-add-j Inv-loop μ-loop
+add-j c = omega (arith, c .before .before .before .before .before .loop-test .taken, c .before .before .before .before .before .before .before .before .before .before .before .before .before .pre, c .before .before .before .before .before .before .before .before .before .before .before .before .before .fits)
+
+loop-less : tie.Need-loop-less Inv-loop μ-loop
+loop-less c = omega (arith, c .before .before .before .before .before .loop-test .taken)
+
+loop-again : tie.Need-loop-again Inv-loop μ-loop
+loop-again c = (omega (arith, c .before .before .before .before .before .loop-test .taken), (c .before .before .mark-once .ensures .0 ∙ c .before .before .before .before .before .before .loop .inv .1 .0, λ e. c .before .before .mark-once .ensures .1 (c .before .before .before .before .before .before .loop .inv .1 .1 e)))
+
+same-length : tie.Need-same-length Inv-loop μ-loop
+same-length c = c .before .loop .inv .1 .0
+
+returns : tie.Need-returns Inv-loop μ-loop
+returns c = c .before .loop .inv .1
+
+pub mark-states-spec : {M : Type 1} → statement M
+mark-states-spec =
+    tie.close
+    (tie.spec
+    Inv-loop
+    μ-loop
+    loop-holds
+    state-at-requires
+    cast-s
+    mark-once-requires
+    add-j
+    loop-less
+    loop-again
+    same-length
+    returns)

@@ -1,0 +1,111 @@
+// The table of an event: where each step stands, in its first half 0 where the event alone keeps the step from firing, in its second
+// half 0 where the event alone makes it expired. A TEST reads no variable, so that one look serves every thread.
+ghost use mathlib.Core.Path.{_≡_};
+ghost use mathlib.Core.Bool.{true, cond};
+ghost use Prim.Native.Nat.{_*_, _≤_, _<_};
+ghost use lib.ListN.{length, getD};
+ghost use Rattle.threads.specs.Setting.{Wide, MarkedIs};
+
+// An entry of a table, 0 past its end.
+fn entry(steps: &[usize], i: usize) -> usize
+    ensures { λ r. ⌜ r ≡ getD (now (steps .entry)) i 0 ⌝ }
+{
+    if i < steps.len() { steps[i] } else { 0 }
+}
+
+// Both halves, before an event says anything.
+pub fn widened(steps: &[usize]) -> [usize; 256]
+    ensures { λ r. ⌜ Wide (now (steps .entry)) r ⌝ }
+{
+    let mut table = [0usize; 256];
+    let mut i: usize = 0;
+    while i < 128 {
+        let at = entry(steps, i);
+        table[i] = at;
+        table[128 + i] = at;
+        i += 1;
+    }
+    table
+}
+
+// An offset, or 0.
+fn unless(cleared: bool, at: usize) -> usize
+    ensures { λ r. ⌜ r ≡ cond cleared 0 at ⌝ }
+{
+    if cleared { 0 } else { at }
+}
+
+// What the event alone says of the step at index i.
+fn mark_entry(table: &mut [usize], i: usize, f: &[u8], steps: &[usize], up: &[bool], event: &[u32])
+    requires { ⌜ (length (now table) ≡ 256) × (i < 128) ⌝ }
+    ensures { λ _. ⌜ MarkedIs (now (f .entry)) (now (steps .entry)) (now (up .entry)) (now (event .entry)) (now (table .entry)) (now (table .exit)) ⌝ }
+{
+    let mark = interpreter::marks::mark_step(f, entry(steps, i), up, event);
+    table[i] = unless(mark.barred, table[i]);
+    table[128 + i] = unless(mark.due, table[128 + i]);
+}
+
+// What the event alone says of the steps of a state.
+fn mark_state(table: &mut [usize], s: usize, f: &[u8], steps: &[usize], up: &[bool], event: &[u32])
+    requires { ⌜ (length (now table) ≡ 256) × (s < 16) ⌝ }
+    ensures { λ _. ⌜ MarkedIs (now (f .entry)) (now (steps .entry)) (now (up .entry)) (now (event .entry)) (now (table .entry)) (now (table .exit)) ⌝ }
+{
+    let mut k: usize = 0;
+    while k < 8 {
+        mark_entry(table, s * 8 + k, f, steps, up, event);
+        k += 1;
+    }
+}
+
+// Whether a state is one of the 16 and not yet looked at.
+fn is_new(done: [bool; 16], s: usize) -> bool
+    ensures { λ r. ⌜ (r ≡ true → s < 16) ⌝ }
+{
+    if s < 16 { !done[s] } else { false }
+}
+
+// What the event alone says of the steps of a state, unless it was looked at; the states looked at.
+fn mark_once(
+    table: &mut [usize],
+    done: [bool; 16],
+    s: usize,
+    f: &[u8],
+    steps: &[usize],
+    up: &[bool],
+    event: &[u32],
+) -> [bool; 16]
+    requires { ⌜ length (now table) ≡ 256 ⌝ }
+    ensures { λ _. ⌜ MarkedIs (now (f .entry)) (now (steps .entry)) (now (up .entry)) (now (event .entry)) (now (table .entry)) (now (table .exit)) ⌝ }
+{
+    if is_new(done, s) {
+        mark_state(table, s, f, steps, up, event);
+        let mut more = done;
+        more[s] = true;
+        return more;
+    }
+    done
+}
+
+// What the event alone says of the steps of the states that threads wait in.
+pub fn mark_states(
+    table: &mut [usize],
+    work: &[u32],
+    half: usize,
+    count: usize,
+    f: &[u8],
+    steps: &[usize],
+    up: &[bool],
+    event: &[u32],
+)
+    requires { ⌜ (length (now table) ≡ 256) × (count * 192 ≤ length (now work)) × (half < 2) ⌝ }
+    ensures { λ _. ⌜ MarkedIs (now (f .entry)) (now (steps .entry)) (now (up .entry)) (now (event .entry)) (now (table .entry)) (now (table .exit)) ⌝ }
+{
+    let mut done = [false; 16];
+    let mut j: usize = 0;
+    while j < count {
+        let s = slots::state_at(work, j, half) as usize;
+        let more = mark_once(table, done, s, f, steps, up, event);
+        done = more;
+        j += 1;
+    }
+}
