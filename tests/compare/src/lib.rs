@@ -13,3 +13,5 @@ pub mod lent;
 pub mod product;
 pub mod program;
 pub mod rounds;
+#[cfg(not(feature = "fake"))]
+pub mod stack;

@@ -88,6 +88,8 @@ fn with_seed(check: Check, seed: u64) -> Check {
 }
 
 fn fixed() -> Result<String, Disagreement> {
+    #[cfg(not(feature = "fake"))]
+    compare::stack::small();
     let mut comparison = Comparison::default();
     rounds::limits(&mut comparison)?;
     rounds::spoiled(&mut comparison)?;
