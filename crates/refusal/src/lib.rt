@@ -53,65 +53,32 @@ fn file_number(f: File) -> usize
     }
 }
 
+// A line of the table of refusals.
+fn line(file: usize, number: usize, place: usize) -> Report
+    ensures { λ t. ⌜ t ≡ Rattle.refusal.specs.Refusals.line file number place ⌝ }
+{
+    Report {
+        file,
+        number,
+        place,
+    }
+}
+
 // File, number and place of a refusal.
 pub fn report_of(r: Refusal) -> Report
     ensures { λ t. ⌜ t ≡ reportOf r ⌝ }
 {
     match r {
-        Refusal::CutShort { file, place } => Report {
-            file: file_number(file),
-            number: 1,
-            place,
-        },
-        Refusal::Foreign { file, place } => Report {
-            file: file_number(file),
-            number: 2,
-            place,
-        },
-        Refusal::Value { file, place } => Report {
-            file: file_number(file),
-            number: 3,
-            place,
-        },
-        Refusal::Surplus { file, place } => Report {
-            file: file_number(file),
-            number: 4,
-            place,
-        },
-        Refusal::Leftover { file, place } => Report {
-            file: file_number(file),
-            number: 5,
-            place,
-        },
-        Refusal::StepBack { place } => Report {
-            file: 1,
-            number: 6,
-            place,
-        },
-        Refusal::DeadStart => Report {
-            file: 2,
-            number: 7,
-            place: 0,
-        },
-        Refusal::Unbound { place } => Report {
-            file: 2,
-            number: 8,
-            place,
-        },
-        Refusal::Outside { start } => Report {
-            file: 3,
-            number: 9,
-            place: start,
-        },
-        Refusal::Short { needed } => Report {
-            file: 3,
-            number: 10,
-            place: needed,
-        },
-        Refusal::Crowded { place } => Report {
-            file: 3,
-            number: 11,
-            place,
-        },
+        Refusal::CutShort { file, place } => line(file_number(file), 1, place),
+        Refusal::Foreign { file, place } => line(file_number(file), 2, place),
+        Refusal::Value { file, place } => line(file_number(file), 3, place),
+        Refusal::Surplus { file, place } => line(file_number(file), 4, place),
+        Refusal::Leftover { file, place } => line(file_number(file), 5, place),
+        Refusal::StepBack { place } => line(1, 6, place),
+        Refusal::DeadStart => line(2, 7, 0),
+        Refusal::Unbound { place } => line(2, 8, place),
+        Refusal::Outside { start } => line(3, 9, start),
+        Refusal::Short { needed } => line(3, 10, needed),
+        Refusal::Crowded { place } => line(3, 11, place),
     }
 }

@@ -257,9 +257,10 @@ fn write_row(part: &mut [u32], words: [u32; 12])
 }
 
 // Whether a search is refused.
-fn is_refused(verdict: Verdict) -> bool
-    ensures { λ r. ⌜ r ≡ isRefused verdict ⌝ }
+fn is_refused(answer: SearchAnswer) -> bool
+    ensures { λ r. ⌜ r ≡ isRefused (answer .verdict) ⌝ }
 {
+    let verdict = answer.verdict;
     match verdict {
         Verdict::Refused(_why) => true,
         Verdict::Absent => false,
@@ -299,8 +300,7 @@ fn one_start(
         slots,
         work,
     );
-    let verdict = answer.verdict;
-    if is_refused(verdict) {
+    if is_refused(answer) {
         return false;
     }
     let words = words_of(&rows[..], tied, start, answer);
