@@ -1,4 +1,5 @@
 // The search for the least run from one event of a log.
+use event_log::Loaded;
 use event_log::LogReading;
 use formula_reader::FormulaReading;
 use refusal::Refusal;
@@ -7,8 +8,8 @@ use search::Verdict;
 use slots::Thread;
 ghost use mathlib.Core.Path.{_≡_};
 ghost use mathlib.Core.Bool.{false, cond};
-ghost use mathlib.Core.List.{[], _∷_};
-ghost use Prim.Native.Nat.{_+_, _*_, _≤_, _<_, min, max};
+ghost use mathlib.Core.List.{List, [], _∷_};
+ghost use Prim.Native.Nat.{ℕ, _+_, _*_, _≤_, _<_, min, max};
 ghost use lib.ListN.{length};
 ghost use lib.Dec.{eqb};
 ghost use Rattle.slots.specs.Words.{list};
@@ -110,10 +111,11 @@ fn verdict_at(kinds: &[u32], state: u32) -> Verdict
     }
 }
 
-// The answer that names a thread's trail as the run.
-fn named(t: Thread, kinds: &[u32], width: usize) -> SearchAnswer
-    ensures { λ r. ⌜ r ≡ namedAnswer (now (kinds .entry)) t width ⌝ }
+// The answer that names the trail of the turn's thread as the run.
+fn named(turn: Turn, kinds: &[u32], width: usize) -> SearchAnswer
+    ensures { λ r. ⌜ r ≡ namedAnswer (now (kinds .entry)) (turn .thread) width ⌝ }
 {
+    let t = turn.thread;
     let entries = entries_of(t);
     let events = entries.events;
     let numbers = entries.numbers;
@@ -198,26 +200,27 @@ fn one_event(
     }
 }
 
-// One event, with what it alone says of the steps told first: `wide` is the table of the steps in both halves.
+// One event, with what it alone says of the steps told first: `wide` has the table of the steps in both halves.
 fn at_event(
     work: &mut [u32],
     half: usize,
     count: usize,
     slots: usize,
     f: &[u8],
-    steps: &[usize],
     wide: [usize; 256],
     kinds: &[u32],
-    up: [bool; 8],
+    log: LogReading,
     n: usize,
-    event: [u32; 8],
+    loaded: Loaded,
 ) -> Turn
     requires { ⌜ (slots * 192 ≤ length (now work)) × (half < 2) × (count ≤ slots) × (n < 1024) ⌝ }
-    ensures { λ r. ⌜ (Wide (now (steps .entry)) wide → TurnOf (now (f .entry)) (now (steps .entry)) (now (kinds .entry)) up half count slots (now (work .entry)) (now (work .exit)) n event r) ⌝ }
+    ensures { λ r. ⌜ ((steps : List ℕ) → Wide steps wide → TurnOf (now (f .entry)) steps (now (kinds .entry)) (log .rises) half count slots (now (work .entry)) (now (work .exit)) n (loaded .values) r) ⌝ }
     ensures { λ r. ⌜ Fits slots (r .outcome) × (length (now (work .exit)) ≡ length (now (work .entry))) ⌝ }
 {
+    let up = log.rises;
+    let event = loaded.values;
     let mut table = wide;
-    threads::table::mark_states(&mut table, &work[..], half, count, f, steps, &up, &event);
+    threads::table::mark_states(&mut table, &work[..], half, count, f, &wide, &up, &event);
     one_event(work, half, count, slots, f, &table, kinds, up, n, event)
 }
 
@@ -232,20 +235,17 @@ fn onward(n: usize, more: usize, events: usize) -> usize
 // The search from one event of an accepted log with an accepted formula, event by event.
 pub fn search_from(
     l: &[u8],
-    fields: usize,
-    events: usize,
+    log: LogReading,
     at: usize,
     f: &[u8],
     table: &[usize],
     kinds: &[u32],
-    up: [bool; 8],
     start: usize,
     slots: usize,
     work: &mut [u32],
 ) -> SearchAnswer
-    requires { ⌜ (slots * 192 ≤ length (now work)) × (1 ≤ slots) × (events ≤ 1024) ⌝ }
-    ensures { λ r. ⌜ SearchedFrom (now (l .entry)) fields events at (now (f .entry)) (now (table .entry)) (now (kinds .entry)) up start slots r ⌝ }
-    ensures { λ r. ⌜ (r .width ≤ slots) × (length (now (work .exit)) ≡ length (now (work .entry))) ⌝ }
+    requires { ⌜ (slots * 192 ≤ length (now work)) × (1 ≤ slots) × (log .events ≤ 1024) ⌝ }
+    ensures { λ r. ⌜ SearchedFrom (now (l .entry)) (log .fields) (log .events) at (now (f .entry)) (now (table .entry)) (now (kinds .entry)) (log .rises) start slots r × ((r .width ≤ slots) × (length (now (work .exit)) ≡ length (now (work .entry)))) ⌝ }
 {
     origin_in(work);
     let wide = threads::table::widened(table);
@@ -254,33 +254,19 @@ pub fn search_from(
     let mut width: usize = 0;
     let mut place = at;
     let mut n = start;
-    while n < events {
-        let loaded = event_log::event_at(l, fields, place);
-        let event = loaded.values;
-        let turn = at_event(
-            work,
-            half,
-            count,
-            slots,
-            f,
-            table,
-            wide,
-            kinds,
-            up,
-            n,
-            event,
-        );
-        let thread = turn.thread;
+    while n < log.events {
+        let loaded = event_log::event_at(l, log.fields, place);
+        let turn = at_event(work, half, count, slots, f, wide, kinds, log, n, loaded);
         let outcome = turn.outcome;
         match outcome {
-            Outcome::Found => return named(thread, kinds, width),
+            Outcome::Found => return named(turn, kinds, width),
             Outcome::Crowded => return refused(Refusal::Crowded { place: n }),
             Outcome::Waiting(more) => {
                 count = more;
                 width = larger(width, more);
                 half = 1 - half;
                 place = loaded.next;
-                n = onward(n, more, events);
+                n = onward(n, more, log.events);
             }
         }
     }
@@ -318,22 +304,10 @@ fn checked(
         return refused(Refusal::Short { needed: 192 });
     }
     let at = skip_to(l, log.fields, log.first, start);
-    let up = log.rises;
     let table = formula.table;
     let kinds = formula.kinds;
-    search_from(
-        l,
-        log.fields,
-        events,
-        at,
-        f,
-        &table,
-        &kinds,
-        up,
-        start,
-        slots_of(words),
-        work,
-    )
+    let slots = slots_of(words);
+    search_from(l, log, at, f, &table, &kinds, start, slots, work)
 }
 
 // The refusal of a log that was not accepted.

@@ -286,20 +286,7 @@ fn one_start(
     requires { ⌜ (slots * 192 ≤ length (now work)) × (1 ≤ slots) × (log .events ≤ 1024) × (start * 12 + 12 ≤ length (now rows)) ⌝ }
     ensures { λ r. ⌜ OneStart (now (l .entry)) log at (now (f .entry)) (now (table .entry)) (now (kinds .entry)) tied start slots (now (rows .entry)) (now (rows .exit)) r ⌝ }
 {
-    let up = log.rises;
-    let answer = engine::search_from(
-        l,
-        log.fields,
-        log.events,
-        at,
-        f,
-        table,
-        kinds,
-        up,
-        start,
-        slots,
-        work,
-    );
+    let answer = engine::search_from(l, log, at, f, table, kinds, start, slots, work);
     if is_refused(answer) {
         return false;
     }

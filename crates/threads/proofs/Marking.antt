@@ -14,8 +14,17 @@ use Rattle.threads.specs.Setting.{EventTable, Firing, stands, barred, La
 
 module _ (f steps : List ℕ) (up : List Bool) (event table : List ℕ) where
   -- the table before the event says anything
-  pub wide-table : Wide steps table → EventTable f steps up event table
-  wide-table w = record { sized = w .sized; fires = λ i h. stands (w .first i h); lapses = λ i h. lasts (w .second i h) }
+  pub wide-table : Wide steps table → EventTable f table up event table
+  wide-table w = record { sized = w .sized; fires = λ i h. stands refl; lapses = λ i h. lasts (w .second i h ∙ sym (w .first i h)) }
+
+  -- and its first half has the steps
+  pub wide-steps : Wide steps table → (entries : List ℕ) → EventTable f table up event entries → EventTable f steps up event entries
+  wide-steps w entries e =
+      record {
+        sized = e .sized;
+        fires = λ i h. subst (λ x. Firing f event x (getD entries i 0)) (w .first i h) (e .fires i h);
+        lapses = λ i h. subst (λ x. Lasting f up event x (getD entries (128 + i) 0)) (w .first i h) (e .lapses i h);
+      }
 
   module _ (i : ℕ) (h : i < 128) (e : EventTable f steps up event table) where
     pub barred-more : (b : Bool) → (b ≡ true → (c : Configuration) → (fired f (getD steps i 0) c event) .fires ≡ false) → EventTable f steps up event (set table i (cond b 0 (getD table i 0)))

@@ -1,16 +1,22 @@
 -- `rows::one_start` meets its contract: crowded, or the row of the search's answer is written.
-use Rattle.machine.specs.Machine.{machine}
-use Rattle.runs.specs.Search as Runs
-use Rattle.slots.specs.Words.{put}
-use Rattle.rows.proofs.Turns.{part-back, turn-crowded, turn-written, given-fits, given-ties}
-use denote.Ref.{now}
-use native.Mathlib.Omega.{arith}
-use lib.ListN.{length}
-use mathlib.Core.Path.{_≡_, refl, ap, sym, _∙_}
 use Prim.Native.Nat.{_+_, _*_}
+use mathlib.Core.Path.{_≡_, refl, ap, sym, _∙_}
+use lib.ListN.{length}
+use native.Mathlib.Omega.{arith}
+use denote.Ref.{now}
+use Rattle.rows.proofs.Turns.{part-back, turn-crowded, turn-written, given-fits, given-ties}
+use Rattle.slots.specs.Words.{put}
+use Rattle.runs.specs.Search as Runs
+use Rattle.machine.specs.Machine.{machine}
 use borrow.Author.Needs.{needs}
 use Rattle.rows.proofs.one_start.Statement.{statement}
 use Rattle.rows.proofs.one_start.Tie as tie
+use Rattle.rows.proofs.one_start.Reads as reads
+use Rattle.rows.proofs.one_start.Lts as lts
+use Rattle.engine.proofs.search_from.Reads as search-from-reads
+use Rattle.rows.proofs.is_refused.Reads as is-refused-reads
+use Rattle.rows.proofs.words_of.Reads as words-of-reads
+use Rattle.rows.proofs.write_row.Reads as write-row-reads
 
 search-from-requires : tie.Need-search-from-requires
 search-from-requires c κs = search needs
@@ -23,20 +29,20 @@ same-length c = search needs
 
 returns : tie.Need-returns
 returns c =
-    let a = c .before .before .before .before .before .before .before .before .before .before .before .before .before .args in
+    let a = c .before .before .before .before .before .before .before .before .before .before .before .before .args in
     λ g fm given p h. turn-crowded g fm (a .start) (now (a .rows)) (Runs.search (machine g fm) (a .slots) (a .start)) (c .before .before .before .before .search-from .result) (c .before .before .before .before .search-from .ensures .0 g fm (given .setting) (given .log-bytes) (given .fields-are) (given .events-are) p h) (sym (c .before .is-refused .ensures) ∙ c .if1 .taken)
 
 words-of-requires : tie.Need-words-of-requires
 words-of-requires c κs = search needs
 
 mul-a : tie.Need-mul-a
-mul-a c = omega (arith, c .before .before .before .before .before .before .before .before .before .before .before .before .before .before .before .pre .3, c .before .before .before .before .before .before .before .before .before .before .before .before .before .before .before .good)
+mul-a c = omega (arith, c .before .before .before .before .before .before .before .before .before .before .before .before .before .before .pre .3, c .before .before .before .before .before .before .before .before .before .before .before .before .before .before .good)
 
 add-e : tie.Need-add-e
-add-e c = omega (arith, c .before .before .before .before .before .before .before .before .before .before .before .before .before .before .before .pre .3, c .before .before .before .before .before .before .before .before .before .before .before .before .before .before .before .good)
+add-e c = omega (arith, c .before .before .before .before .before .before .before .before .before .before .before .before .before .before .pre .3, c .before .before .before .before .before .before .before .before .before .before .before .before .before .before .good)
 
 mul-write-row : tie.Need-mul-write-row
-mul-write-row c = omega (arith, c .before .before .before .before .before .before .before .before .before .before .before .before .before .before .before .pre .3, c .before .before .before .before .before .before .before .before .before .before .before .before .before .before .before .good)
+mul-write-row c = omega (arith, c .before .before .before .before .before .before .before .before .before .before .before .before .before .before .pre .3, c .before .before .before .before .before .before .before .before .before .before .before .before .before .before .good)
 
 sub-write-row : tie.Need-sub-write-row
 sub-write-row c = search needs
@@ -58,7 +64,7 @@ same-length-3 c = search needs
 
 returns-2 : tie.Need-returns-2
 returns-2 c =
-    let a = c .before .before .before .before .before .before .before .before .before .before .before .before .before .before .before .before .before .before .before .args in
+    let a = c .before .before .before .before .before .before .before .before .before .before .before .before .before .before .before .before .before .before .args in
     let r = c .before .before .before .before .before .before .before .before .before .before .search-from .result in
     let ws = c .before .before .before .before .words-of .result in
     let n : length ws ≡ 12 = search needs in
