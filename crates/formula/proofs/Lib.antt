@@ -8,7 +8,6 @@ pub mod Counts
 pub mod AfterEnd
 pub mod Reading
 pub mod Fuel
-pub mod Walk
 pub mod Places
 pub mod Steps
 pub mod Table

@@ -1,19 +1,18 @@
 -- Laws in the shape in which loops meet them: the endings and the candidates of a list of threads, one thread and one step
 -- number at a time.
 use mathlib.Core.Path.{_≡_, refl, sym, ap, _∙_}
-use mathlib.Core.Bool.{Bool, true, false, _&&_, true≢false}
+use mathlib.Core.Bool.{Bool, true, false, _&&_}
 use mathlib.Core.Option.{Option, none, some}
 use mathlib.Core.List.{List, [], _∷_, _++_, append-nil, append-assoc, nil≢cons}
-use Prim.Native.Nat.{ℕ, suc, _≤_, _<_}
+use Prim.Native.Nat.{ℕ, suc, _<_}
 use native.Mathlib.Omega.{arith}
-use lib.ListN.{length, getD, take, drop, drop-of-length-le}
-use lib.Seq.{drop-cons}
+use lib.ListN.{take}
 use Rattle.runs.specs.Lists.{only, keep, gather}
 use Rattle.runs.specs.Machine.{Machine}
 use Rattle.runs.specs.Run.{Quiet}
 use Rattle.runs.specs.Search.{Thread, begun, arrive, firing, chosen, moves, passes, stays, unended, offers, next, ended, endings, lesser, leastFrom, hopeful}
 use Rattle.runs.specs.Threads.{candidates}
-use Rattle.runs.proofs.Moves.{stepped, first-fires, firing-quiet, hopeful-in}
+use Rattle.runs.proofs.Moves.{stepped, first-fires, firing-quiet}
 
 -- ---- lists
 
@@ -49,33 +48,11 @@ module _ (M : Machine) where
 
   -- ---- one thread more
 
-  pub endings-snoc : (n : ℕ) (ths : List (Thread M)) (th : Thread M) → endings M n (ths ++ (th ∷ [])) ≡ endings M n ths ++ keep (ended M) (moves M n th)
-  unfolding endings gather
-  endings-snoc n ths th = gather-snoc (λ (x : Thread M). keep (ended M) (moves M n x)) ths th
-
-  pub candidates-snoc : (n : ℕ) (ths : List (Thread M)) (th : Thread M) → candidates M n (ths ++ (th ∷ [])) ≡ candidates M n ths ++ keep (hopeful M n) (offers M n th)
-  unfolding candidates next
-  candidates-snoc n ths th = ap (keep (hopeful M n)) (gather-snoc (offers M n) ths th) ∙ keep-append (hopeful M n) (next M n ths) (offers M n th)
-
   pub candidates-cons : (n : ℕ) (th : Thread M) (ths : List (Thread M)) → candidates M n (th ∷ ths) ≡ keep (hopeful M n) (offers M n th) ++ candidates M n ths
   unfolding candidates next gather
   candidates-cons n th ths = keep-append (hopeful M n) (offers M n th) (next M n ths)
 
-  -- the endings from the j-th thread on: its own, then those from the next on
-  pub endings-step : (best : Option (Thread M)) (n : ℕ) (ths : List (Thread M)) (j : ℕ) (d : Thread M) → j < length ths → leastFrom M best (endings M n (drop j ths)) ≡ leastFrom M (leastFrom M best (keep (ended M) (moves M n (getD ths j d)))) (endings M n (drop (suc j) ths))
-  unfolding endings gather
-  endings-step best n ths j d h =
-      ap (λ l. leastFrom M best (endings M n l)) (drop-cons ths j d h) ∙ least-append best (keep (ended M) (moves M n (getD ths j d))) (endings M n (drop (suc j) ths))
-
-  pub endings-done : (best : Option (Thread M)) (n : ℕ) (ths : List (Thread M)) (j : ℕ) → length ths ≤ j → leastFrom M best (endings M n (drop j ths)) ≡ best
-  unfolding endings gather leastFrom
-  endings-done best n ths j h = ap (λ l. leastFrom M best (endings M n l)) (drop-of-length-le ths h)
-
   -- ---- one step number more
-
-  pub firing-silent : (th : Thread M) (n k s r : ℕ) → s ≡ suc r → fire (th .config) n k ≡ none → firing M th n k s ≡ firing M th n (suc k) r
-  unfolding firing
-  firing-silent th n k s r q e = ap (firing M th n k) q ∙ ap (λ o. arrive M th n k o (firing M th n (suc k) r)) e
 
   pub firing-fires : (th : Thread M) (n k s r : ℕ) (d : Config) → s ≡ suc r → fire (th .config) n k ≡ some d → firing M th n k s ≡ stepped M th n k d ∷ firing M th n (suc k) r
   unfolding firing
@@ -93,15 +70,6 @@ module _ (M : Machine) where
   -- of the targets those count that may wait after n
   abbrev pub offered : ℕ → List (Thread M) → List (Thread M)
   offered n xs = keep (hopeful M n) (keep (unended M) xs)
-
-  -- first the thread as it stands, if it may stay and wait
-  pub stay-first : (n : ℕ) (th : Thread M) → keep (hopeful M n) (offers M n th) ≡ only (stays M n th && hopeful M n th) th (offered n (moves M n th))
-  unfolding offers
-  stay-first n th = keep-only (hopeful M n) (stays M n th) th (keep (unended M) (moves M n th))
-
-  pub offer-first : (n : ℕ) (x : Thread M) (xs : List (Thread M)) → offered n (x ∷ xs) ≡ only (unended M x && hopeful M n x) x (offered n xs)
-  unfolding keep
-  offer-first n x xs = keep-only (hopeful M n) (unended M x) x (keep (unended M) xs)
 
   -- ---- committed: none or the one lowest
 
@@ -133,12 +101,4 @@ module _ (M : Machine) where
       go : (l : List (Thread M)) → take 1 l ≡ stepped M th n k d ∷ [] → (begun (th .trail) && passes M true l) ≡ false
       go [] q = absurd (nil≢cons q)
       go (x ∷ l) q = right (begun (th .trail))
-
-  -- ---- tests
-
-  pub hopeless-out : (n : ℕ) (th : Thread M) → ((k : ℕ) → k < steps → expired (th .config) k n ≡ true) → hopeful M n th ≡ false
-  hopeless-out n th h = go (hopeful M n th) refl
-    where
-      go : (b : Bool) → hopeful M n th ≡ b → hopeful M n th ≡ false
-      go false e = e
-      go true e = let k = hopeful-in M n th e in absurd (true≢false (sym (h (k .step) (k .known)) ∙ k .alive))
+      -- ---- tests

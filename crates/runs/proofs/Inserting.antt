@@ -4,23 +4,21 @@ use mathlib.Core.Path.{_≡_, refl, sym, ap, _∙_, subst}
 use mathlib.Core.Logic.{_⊎_, inl, inr}
 use mathlib.Core.Bool.{Bool, true, false}
 use mathlib.Core.Option.{Option, none, some, Option·some-injective}
-use mathlib.Core.List.{List, [], _∷_, _++_, List·Memᴰ·not-nil}
+use mathlib.Core.List.{List, [], _∷_, _++_}
 use Prim.Native.Nat.{ℕ, zero, suc, _≤_, _<_}
 use native.Mathlib.Nat.{le-of-suc-le-suc, not-suc-le-zero}
 use native.Mathlib.Omega.{arith}
 use lib.Dec.{ltb}
-use lib.ListN.{length, getD, set, drop, drop-of-length-le}
-use lib.Seq.{drop-cons}
+use lib.ListN.{length, getD, set}
 use borrow.Author.Tests.{lt-ltb, le-ltb, ltb-false}
-use Rattle.runs.specs.Lists.{In, keep, gather}
+use Rattle.runs.specs.Lists.{In, keep}
 use Rattle.runs.specs.Machine.{Machine}
 use Rattle.runs.specs.Search.{Thread, moves, stays, unended, offers, next, lesser, hopeful}
 use Rattle.runs.specs.Threads.{candidates, place, insert, insertAll, within, insertWithin}
 use Rattle.runs.proofs.Lists.{only-in, keep-in, Given, gather-in}
 use Rattle.runs.proofs.Moves.{Moved, moves-in}
 use Rattle.runs.proofs.Least.{some≢none}
-use Rattle.runs.proofs.Insert.{fits, insertAll-from}
-use Rattle.runs.proofs.Growth.{candidates-cons}
+use Rattle.runs.proofs.Insert.{fits}
 
 module _ (M : Machine) where
   open Machine M using (same)
@@ -62,17 +60,6 @@ module _ (M : Machine) where
           let p = Option·some-injective (insertAll M ths bs) more q in
           record { is = sym p; length-fits = subst (λ (l : List (Thread M)). length l ≤ slots) p (ltb-false slots (length (insertAll M ths bs)) t) }
 
-  -- the candidates from the j-th thread on: its own, then those from the next on
-  pub candidates-step : (slots n : ℕ) (now ths : List (Thread M)) (j : ℕ) (d : Thread M) → j < length ths → insertWithin M slots now (candidates M n (drop j ths)) ≡ chain (insertWithin M slots now (keep (hopeful M n) (offers M n (getD ths j d)))) (λ more. insertWithin M slots more (candidates M n (drop (suc j) ths)))
-  candidates-step slots n now ths j d h =
-      ap (λ l. insertWithin M slots now (candidates M n l)) (drop-cons ths j d h) ∙
-      ap (insertWithin M slots now) (candidates-cons M n (getD ths j d) (drop (suc j) ths)) ∙
-      within-append slots now (keep (hopeful M n) (offers M n (getD ths j d))) (candidates M n (drop (suc j) ths))
-
-  pub candidates-done : (slots n : ℕ) (now ths : List (Thread M)) (j : ℕ) → length ths ≤ j → insertWithin M slots now (candidates M n (drop j ths)) ≡ some now
-  unfolding candidates next gather keep insertWithin
-  candidates-done slots n now ths j h = ap (λ l. insertWithin M slots now (candidates M n l)) (drop-of-length-le ths h)
-
   -- ---- inserting by place: the first thread in the same configuration, or the end
 
   pub insert-at : (b d : Thread M) (ths : List (Thread M)) (j : ℕ) → j < length ths → ((m : ℕ) → m < j → same (getD ths m d .config) (b .config) ≡ false) → same (getD ths j d .config) (b .config) ≡ true → insert M b ths ≡ set ths j (lesser M (some (getD ths j d)) b)
@@ -106,10 +93,3 @@ module _ (M : Machine) where
           go : ((stays M n (g .giver) ≡ true) × (x ≡ g .giver)) ⊎ In x (keep (unended M) (moves M n (g .giver))) → (x ≡ g .giver) ⊎ (Moved M n (g .giver) x × (unended M x ≡ true))
           go (inl e) = inl (e .1)
           go (inr k) = let q = keep-in (unended M) (moves M n (g .giver)) k in inr (moves-in M n (g .giver) x (q .member), q .passes)
-
-  pub next-came : (slots n : ℕ) (ths more : List (Thread M)) → insertWithin M slots [] (candidates M n ths) ≡ some more → (x : Thread M) → In x more → Came n ths x
-  next-came slots n ths more e x m = go (insertAll-from M [] (candidates M n ths) x (subst (In x) (within-some slots [] (candidates M n ths) more (omega arith) e .is) m))
-    where
-      go : In x [] ⊎ In x (candidates M n ths) → Came n ths x
-      go (inl h) = absurd (List·Memᴰ·not-nil h)
-      go (inr h) = candidate-came n ths x h

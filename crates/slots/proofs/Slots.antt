@@ -7,21 +7,16 @@ use native.Mathlib.Numerals.{add-one}
 use native.Mathlib.Omega.{arith}
 use borrow.Author.Tests.{ltb-true, ltb-false}
 use lib.Dec.{ltb}
-use lib.ListN.{length, getD, take, drop, set, length-drop}
+use lib.ListN.{length, getD, take, drop, set}
 use Rattle.slots.specs.declared.Thread.{Thread}
 use Rattle.slots.specs.Threads.{Sized}
 use Rattle.slots.specs.Words.{wordsOf, threadOf, threadAt, put, place, threadsFrom, list}
 use Rattle.slots.proofs.Parts.{drop-put, drop-put-behind, part-put-before}
-use Rattle.slots.proofs.Words.{thread-take, thread-sized, thread-of-words, words-length}
+use Rattle.slots.proofs.Words.{thread-take, thread-of-words, words-length}
 
 -- the thread of a slot's part is that of the words from where it begins
 pub part-thread : (l : List ℕ) (a e p : ℕ) → a ≡ p → e ≡ a + 96 → threadOf (take (e - a) (drop a l)) ≡ threadAt l p
 part-thread l a e p q h = thread-take (e - a) (drop a l) (omega arith) ∙ ap (threadAt l) q
-
-pub slot-sized : (l : List ℕ) (a : ℕ) → a + 66 ≤ length l → Sized (threadAt l a)
-slot-sized l a h =
-    let d : length (drop a l) ≡ length l - a = length-drop a l in
-    thread-sized (drop a l) (omega arith)
 
 module _ (l : List ℕ) (t : Thread) (s : Sized t) where
   -- where a thread was stored it is read back

@@ -70,6 +70,11 @@ fn found(answer: &Result<Answer, Refusal>) -> Found {
             }
         }
     };
+    found_of(&answer)
+}
+
+/// What the library gives for an answer of the reference.
+pub fn found_of(answer: &Answer) -> Found {
     Found {
         refused: Refused::default(),
         verdict: match answer.verdict {

@@ -1,6 +1,7 @@
 //! Stands in for the product's static library: the same functions, made of the
 //! reference. A fault may be switched on, to see that the comparison shows it.
 
+use crate::checks::found_of;
 use crate::product::{Found, LogRead, Refused, ACCEPT, NONE, REJECT};
 use reference::analysis;
 use reference::formula;
@@ -8,7 +9,7 @@ use reference::log::Log;
 use reference::machine::Setting;
 use reference::refusal::{Refusal, CALL, CROWDED, OUTSIDE, SHORT, UNBOUND, VALUE};
 use reference::runs::threads;
-use reference::search::{self, Answer, Verdict, SEAT_WORDS};
+use reference::search::{self, Answer, SEAT_WORDS};
 use std::sync::atomic::{AtomicUsize, Ordering};
 
 /// What a wrong product would do.
@@ -205,20 +206,7 @@ fn searched(log: &[u8], formula: &[u8], start: usize, words: usize) -> Result<An
 }
 
 fn found(answer: &Answer) -> Found {
-    let mut found = Found {
-        refused: Refused::default(),
-        verdict: match answer.verdict {
-            Verdict::None => NONE,
-            Verdict::Accept => ACCEPT,
-            Verdict::Reject => REJECT,
-        },
-        steps: answer.count,
-        events: answer.events.map(|event| event as u32),
-        numbers: answer.steps.map(|number| number as u32),
-        held: std::array::from_fn(|variable| (answer.mask >> variable & 1) as u8),
-        values: answer.values,
-        width: answer.width,
-    };
+    let mut found = found_of(answer);
     if has(Fault::WidthZero) {
         found.width = 0;
     }

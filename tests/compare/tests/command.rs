@@ -64,11 +64,11 @@ fn wrong_words_show_the_usage() {
     }
 }
 
-#[test]
-fn a_wrong_program_is_kept() {
-    let folder = folder("wrong");
+/// The folder that a program found wrong is kept in, and the cause there.
+fn kept_of(name: &str, script: &str) -> (PathBuf, String) {
+    let folder = folder(name);
     let kept = folder.join("kept");
-    let wrong = program(&folder, "echo refused 1 1 1");
+    let wrong = program(&folder, script);
     let output = compare(&[
         "program",
         &wrong,
@@ -79,6 +79,12 @@ fn a_wrong_program_is_kept() {
     ]);
     assert_eq!(output.status.code(), Some(1));
     let cause = std::fs::read_to_string(kept.join("cause.txt")).expect("a cause");
+    (kept, cause)
+}
+
+#[test]
+fn a_wrong_program_is_kept() {
+    let (kept, cause) = kept_of("wrong", "echo refused 1 1 1");
     assert_eq!(
         cause,
         "program Some(\"refused 1 1 1\"), reference Some(\"refused 1 1 0\")\n"
@@ -89,19 +95,7 @@ fn a_wrong_program_is_kept() {
 
 #[test]
 fn a_program_right_without_files_alone_is_found_out() {
-    let folder = folder("halfway");
-    let kept = folder.join("kept");
-    let half = program(&folder, "test -s log.bin && exit 3; echo refused 1 1 0");
-    let output = compare(&[
-        "program",
-        &half,
-        "0",
-        "1",
-        "--keep",
-        &kept.display().to_string(),
-    ]);
-    assert_eq!(output.status.code(), Some(1));
-    let cause = std::fs::read_to_string(kept.join("cause.txt")).expect("a cause");
+    let (kept, cause) = kept_of("halfway", "test -s log.bin && exit 3; echo refused 1 1 0");
     assert!(
         cause.starts_with("the program ends with exit status: 3"),
         "{cause}"

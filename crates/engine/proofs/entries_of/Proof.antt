@@ -1,4 +1,4 @@
--- `search::entries_of` meets its contract: after k turns the arrays hold the first k entries.
+-- `engine::entries_of` meets its contract: after k turns the arrays hold the first k entries.
 use Rattle.engine.proofs.Arrays.{store-entry, entries-are}
 use Rattle.base.specs.Lists.{pad}
 use lib.ListN.{length, take}

@@ -1,4 +1,4 @@
--- `search::no_run` meets its contract.
+-- `engine::no_run` meets its contract.
 use Rattle.base.specs.Lists.{pad}
 use mathlib.Core.Path.{refl}
 use Rattle.engine.proofs.no_run.Statement.{statement}

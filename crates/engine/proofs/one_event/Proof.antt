@@ -1,4 +1,4 @@
--- `search::one_event` meets its contract.
+-- `engine::one_event` meets its contract.
 use Rattle.engine.proofs.Turns.{found-turn, crowded-turn, next-turn}
 use mathlib.Core.Path.{refl}
 use denote.Ref.{now}

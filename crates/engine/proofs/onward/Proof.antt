@@ -1,4 +1,4 @@
--- `search::onward` meets its contract.
+-- `engine::onward` meets its contract.
 use native.Mathlib.Omega.{arith}
 use borrow.Author.Tests.{eq-eqb, ne-eqb}
 use borrow.Author.Needs.{needs}

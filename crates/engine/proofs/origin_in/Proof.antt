@@ -1,4 +1,4 @@
--- `search::origin_in` meets its contract: the words of the start configuration are read back.
+-- `engine::origin_in` meets its contract: the words of the start configuration are read back.
 use denote.Ref.{now}
 use Rattle.engine.proofs.Loop.{origin-stored}
 use borrow.Author.Needs.{needs}

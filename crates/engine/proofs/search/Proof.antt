@@ -1,4 +1,4 @@
--- `search::search` meets its contract: each check's refusal is handed on, and the search runs where all are passed.
+-- `engine::search` meets its contract: each check's refusal is handed on, and the search runs where all are passed.
 use Rattle.engine.proofs.Calls.{all-bytes, by-log, few-events, by-formula, by-search, passes-both}
 use Rattle.search.specs.Search.{refusal}
 use Rattle.engine.specs.Checks.{refusalOfLog, refusalOfFormula}

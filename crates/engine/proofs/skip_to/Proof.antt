@@ -1,4 +1,4 @@
--- `search::skip_to` meets its contract: after n turns the place is that of event n.
+-- `engine::skip_to` meets its contract: after n turns the place is that of event n.
 use Rattle.engine.proofs.Loop.{event-there}
 use Rattle.engine.specs.Turn.{StandsAt}
 use mathlib.Core.Path.{_≡_}

@@ -1,4 +1,4 @@
--- `search::slots_of` meets its contract.
+-- `engine::slots_of` meets its contract.
 use Rattle.search.specs.Search.{slotsOf}
 use native.Mathlib.Omega.{arith}
 use Rattle.engine.proofs.slots_of.Statement.{statement}

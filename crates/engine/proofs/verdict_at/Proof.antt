@@ -1,4 +1,4 @@
--- `search::verdict_at` meets its contract: past the array's end there is no accept.
+-- `engine::verdict_at` meets its contract: past the array's end there is no accept.
 use denote.Ref.{now}
 use borrow.Author.Tests.{eq-eqb, ne-eqb}
 use lib.ListN.{List·getD-eq-default}
