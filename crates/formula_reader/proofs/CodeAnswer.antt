@@ -1,5 +1,5 @@
--- The reader's answer is the definition's: by the two walks over the file, to END and for what is judged after it.
-use Prim.Native.Nat.{ℕ, zero, suc, _+_, _-_, _*_, _<_, _≤_}
+-- The reader's answer is the definition's: by the walk over the file to END, and what is judged after it.
+use Prim.Native.Nat.{ℕ, zero, suc, _+_, _-_, _*_, _^_, _<_, _≤_}
 use mathlib.Core.Path.{_≡_, refl, sym, ap, _∙_, subst}
 use mathlib.Core.Bool.{Bool, true, false, cond}
 use mathlib.Core.Logic.{_⊎_, inl, inr, ⊎-elim}
@@ -7,6 +7,8 @@ use mathlib.Core.List.{List, [], _∷_, _++_, map, flatMap}
 use mathlib.Core.Option.{Option, none, some}
 use native.Mathlib.Omega.{arith}
 use native.Mathlib.Nat.{zero-add}
+use native.Mathlib.Numerals.{add-one}
+use borrow.Author.Tests.{lt-ltb}
 use lib.Dec.{ltb}
 use lib.ListN.{length, getD, drop, replicate, length-append, length-drop}
 use Rattle.base.specs.Lists.{All, Bytes, pad}
@@ -15,31 +17,30 @@ use Rattle.refusal.specs.declared.File.the-variants.{Formula as InFormula}
 use Rattle.refusal.specs.declared.Refusal.{Refusal}
 use Rattle.refusal.specs.declared.Refusal.the-variants.{Value, Leftover, DeadStart, Unbound as UnboundAt}
 use Rattle.formula_reader.specs.declared.Draft.{Draft}
-use Rattle.formula_reader.specs.declared.Found.{Found}
 use Rattle.formula_reader.specs.declared.Scan.{Scan}
 use Rattle.formula_reader.specs.declared.Verdict.{Verdict}
 use Rattle.formula_reader.specs.declared.Verdict.the-variants.{Accepted, Refused}
-use Rattle.formula_reader.specs.declared.Next.the-variants.{End}
 use Rattle.formula_reader.specs.declared.FormulaReading.{FormulaReading}
-use Rattle.formula.specs.Formula.{StateKind, State, Formula}
-use Rattle.formula.specs.Encode.{Command, kindByte, encodeCommand, commands}
+use Rattle.formula.specs.Formula.{TEST, TESTV, BIND, State, Formula}
+use Rattle.formula.specs.Encode.{Command, TIED, STATE, STEP, CLAUSE, GUARD, kindByte, encodeCommand, commands}
 use Rattle.formula.specs.Unbound.{edgesFrom, unbound, isUnbound}
 use Rattle.formula.specs.Correct.{final, deadStart}
 use Rattle.formula.specs.Lookup.{stepTable, tiedMask}
-use Rattle.formula.specs.Read.{Reading, accepted, refused, Summary, start, gatherAll, assemble, firstAbsent, firstUnbound, refusedAt, judge, afterEnd, readFormula}
-use Rattle.formula_reader.specs.Prefix.{place, placeOf}
+use Rattle.formula.specs.Read.{Reading, accepted, refused, Summary, start, gatherAll, assemble, firstAbsent, firstUnbound, refusedAt, judge, afterEnd, seenAfter, readFormula}
+use Rattle.formula_reader.specs.Places.{nowhere, lowestOf}
 use Rattle.formula_reader.specs.Take.{told}
-use Rattle.formula_reader.specs.Scan.{emptyDraft, finishedWith, scanFile, Scanned}
+use Rattle.formula_reader.specs.Scan.{emptyDraft, scanFile, Scanned}
 use Rattle.formula_reader.specs.Reach.{reachOf, Free}
 use Rattle.formula_reader.specs.Answer.{maskOf, kindsOf, answerOf, acceptedWith, judgedWith}
 use Rattle.formula.proofs.Commands.{Operands, Ended}
 use Rattle.formula.proofs.Gather.{commands-assemble}
 use Rattle.formula.proofs.Reading.{advances, states-passed, reached-start, Complete, reached-end}
 use Rattle.formula.proofs.Table.{fill, fill-table}
-use Rattle.formula_reader.proofs.CodeTrace.{draftAfter, last-kind, told-after, at-after, Whole, Broken, Outcome, outcome}
-use Rattle.formula_reader.proofs.CodeOutline.{table-after, kinds-after, mask-after, absent-after}
-use Rattle.formula_reader.proofs.CodeBound.{unbound-after}
-use Rattle.formula_reader.proofs.CodeEdges.{Rep, steps-kept, reach-is}
+use Rattle.formula_reader.proofs.CodeTrace.{addC, draftAfter, last-kind, told-after, at-after, Whole, Broken, Outcome, outcome}
+use Rattle.formula_reader.proofs.CodeOutline.{table-after, kinds-after, mask-after}
+use Rattle.formula_reader.proofs.CodePlaces.{num, Below}
+use Rattle.formula_reader.proofs.CodeFirst.{placesFrom, absent-place, unbound-place, absent-below, unbound-below}
+use Rattle.formula_reader.proofs.CodeEdges.{kept, Rep, steps-kept, reach-is}
 
 -- a list whose elements are bytes
 pub bytes-of : (l : List ℕ) → ((i : ℕ) → getD l i 0 < 256) → Bytes l
@@ -60,22 +61,38 @@ module _ (kinds : List Kind) (l : List ℕ) (bytes : Bytes l) where
   read-outcome = outcome (length kinds) l (suc (length l)) start [] 0 l bytes (reached-start (length kinds) l)
 
   -- a walk that is refused, and the definition refuses the file so
-  pub refused-so : (limit : ℕ) (free : List Bool) (r : Refusal) → scanFile (length kinds) limit free l .verdict ≡ Refused r → readFormula kinds l ≡ refused r
+  pub refused-so : (r : Refusal) → scanFile (length kinds) l .verdict ≡ Refused r → readFormula kinds l ≡ refused r
   unfolding readFormula scanFile draftAfter
-  refused-so limit free r e =
+  refused-so r e =
       ⊎-elim
-      (λ (w : Whole (length kinds) l (suc (length l)) start [] 0 l). absurd (subst Taken? (sym (ap (λ (x : Scan). x .verdict) (w .scans limit free)) ∙ e) tt))
-      (λ (b : Broken (length kinds) l (suc (length l)) start [] 0 l). b .reads ∙ ap refused (ap (λ v. refusalOf v r) (sym (b .scans limit free) ∙ e)))
+      (λ (w : Whole (length kinds) l (suc (length l)) start [] 0 l). absurd (subst Taken? (sym (ap (λ (x : Scan). x .verdict) (w .scans)) ∙ e) tt))
+      (λ (b : Broken (length kinds) l (suc (length l)) start [] 0 l). b .reads ∙ ap refused (ap (λ v. refusalOf v r) (sym (b .scans) ∙ e)))
       read-outcome
 
   -- a walk that reaches END
-  pub whole-of : (limit : ℕ) (free : List Bool) → scanFile (length kinds) limit free l .verdict ≡ Accepted → Whole (length kinds) l (suc (length l)) start [] 0 l
+  pub whole-of : scanFile (length kinds) l .verdict ≡ Accepted → Whole (length kinds) l (suc (length l)) start [] 0 l
   unfolding scanFile draftAfter
-  whole-of limit free e =
+  whole-of e =
       ⊎-elim
       (λ (w : Whole (length kinds) l (suc (length l)) start [] 0 l). w)
-      (λ (b : Broken (length kinds) l (suc (length l)) start [] 0 l). absurd (subst Taken? (sym e ∙ b .scans limit free) tt))
+      (λ (b : Broken (length kinds) l (suc (length l)) start [] 0 l). absurd (subst Taken? (sym e ∙ b .scans) tt))
       read-outcome
+
+-- the number of states after one more command
+seen-add : (d : Draft) (c : Command) → addC d c .summary .states ≡ seenAfter (d .summary .states) c
+seen-add d (TIED v) = refl
+seen-add d (STATE k) = add-one (d .summary .states)
+seen-add d (STEP t) = refl
+seen-add d (CLAUSE (TEST f o x)) = refl
+seen-add d (CLAUSE (TESTV f o v)) = refl
+seen-add d (CLAUSE (BIND f v)) = refl
+seen-add d (GUARD e) = refl
+
+-- the places after the commands behind a draft
+places-after : (d : Draft) (cs : List Command) → draftAfter d cs .places ≡ placesFrom (d .summary .states) (d .own) (d .at) (d .places) cs
+unfolding draftAfter placesFrom
+places-after d [] = refl
+places-after d (c ∷ cs) = places-after (addC d c) cs ∙ ap (λ n. placesFrom n (addC d c .own) (addC d c .at) (addC d c .places) cs) (seen-add d c)
 
 -- 5: bytes after END
 after-more : (f : Formula) (at : ℕ) (bs : List ℕ) → 0 < length bs → afterEnd f at bs ≡ refused (Leftover InFormula at)
@@ -88,9 +105,20 @@ unfolding afterEnd
 after-none f at [] h = refl
 after-none f at (b ∷ bs) h = absurd (omega arith)
 
+-- whether there is a place
+abbrev given : Option ℕ → Bool
+given none = false
+given (some p) = true
+
+-- a place that was found is below nowhere
+found : (x : Option ℕ) → Below nowhere x → ltb (num x) nowhere ≡ given x
+unfolding nowhere
+found none h = refl
+found (some p) h = lt-ltb p nowhere h
+
 -- the answer of the definition's order: absent, dead start, unbound
 judged : (d : Draft) (f : Formula) (x y : Option ℕ) (b : Bool) → acceptedWith d ≡ answerOf (accepted f)
-    → cond (placeOf x .found) (answerOf (refused (Value InFormula (placeOf x .at)))) (cond b (answerOf (refused DeadStart)) (cond (placeOf y .found) (answerOf (refused (UnboundAt (placeOf y .at)))) (acceptedWith d)))
+    → cond (given x) (answerOf (refused (Value InFormula (num x)))) (cond b (answerOf (refused DeadStart)) (cond (given y) (answerOf (refused (UnboundAt (num y)))) (acceptedWith d)))
     ≡ answerOf (refusedAt x (Value InFormula) (cond b (refused DeadStart) (refusedAt y UnboundAt (accepted f))))
 judged d f (some p) y b e = refl
 judged d f none y true e = refl
@@ -122,90 +150,93 @@ module _ (fields : ℕ) (l : List ℕ) (w : Whole fields l (suc (length l)) star
       let p = w .reached .place in
       omega arith
 
-  module _ (limit : ℕ) (free : List Bool) where
-    abbrev draft : Draft
-    draft = draftAfter limit free emptyDraft (w .es)
+  abbrev draft : Draft
+  draft = draftAfter emptyDraft (w .es)
 
-    place-is : draft .at ≡ w .place
-    unfolding emptyDraft
-    place-is = at-after limit free emptyDraft (w .es) ∙ zero-add (length (flatMap encodeCommand (w .es))) ∙ sym (w .reached .place)
+  place-is : draft .at ≡ w .place
+  unfolding emptyDraft
+  place-is = at-after emptyDraft (w .es) ∙ zero-add (length (flatMap encodeCommand (w .es))) ∙ sym (w .reached .place)
 
-    states-is : draft .summary .states ≡ length (read-as .states)
-    unfolding emptyDraft start
-    states-is = ap (λ (s : Summary). s .states) (told-after limit free emptyDraft (w .es)) ∙ ap (λ cs. advances start cs .states) (sym same-commands) ∙ states-passed read-as
+  states-is : draft .summary .states ≡ length (read-as .states)
+  unfolding emptyDraft start
+  states-is = ap (λ (s : Summary). s .states) (told-after emptyDraft (w .es)) ∙ ap (λ cs. advances start cs .states) (sym same-commands) ∙ states-passed read-as
 
-    kinds-is : draft .outline .kinds ≡ kindsOf (read-as .states)
-    unfolding emptyDraft start pad kindsOf assemble
-    kinds-is = kinds-after limit free emptyDraft (w .es) [] refl refl (w .reached .follows)
+  kinds-is : draft .kinds ≡ kindsOf (read-as .states)
+  unfolding emptyDraft start pad kindsOf assemble
+  kinds-is = kinds-after emptyDraft (w .es) [] refl refl (w .reached .follows)
 
-    table-is : draft .outline .table ≡ stepTable read-as
-    unfolding emptyDraft start
-    table-is = table-after limit free emptyDraft (w .es) ∙ ap (fill start 0 (replicate 128 0)) (sym same-commands) ∙ fill-table read-as (complete .counts)
+  table-is : draft .table ≡ stepTable read-as
+  unfolding emptyDraft start
+  table-is = table-after emptyDraft (w .es) ∙ ap (fill start 0 (replicate 128 0)) (sym same-commands) ∙ fill-table read-as (complete .counts)
 
-    tied-is : maskOf (draft .outline .ties) ≡ tiedMask read-as
-    unfolding assemble tiedMask
-    tied-is = mask-after limit free (w .es)
+  tied-is : maskOf (draft .ties) ≡ tiedMask read-as
+  unfolding assemble tiedMask
+  tied-is = mask-after (w .es)
 
-    -- what was gathered is the formula's
-    accepted-is : acceptedWith draft ≡ answerOf (accepted read-as)
-    unfolding answerOf
-    accepted-is = rw (states-is, kinds-is, table-is, tied-is)
+  -- what was gathered is the formula's
+  accepted-is : acceptedWith draft ≡ answerOf (accepted read-as)
+  unfolding answerOf
+  accepted-is = rw (states-is, kinds-is, table-is, tied-is)
 
-    -- the steps were kept, so the marks worked out on them are the definition's
-    marks-are : (r : List Bool) → Free (draft .edges) r → (v s : ℕ) → v < 8 → s < 16 → getD r (v * 16 + s) false ≡ isUnbound read-as v s
-    unfolding isUnbound
-    marks-are r h v s k m =
-        h .is v s k m ∙ ap (λ z. getD z s false) (reach-is (draft .edges) read-as v k (subst (λ cs. Rep (draftAfter limit free emptyDraft cs .edges) (edgesFrom 0 (read-as .states))) same-commands (steps-kept limit free fields read-as (complete .counts) (complete .operands))))
+  -- the steps were kept, so the marks worked out on them are the definition's
+  marks-are : (r : List Bool) → Free (kept draft) r → (v s : ℕ) → v < 8 → s < 16 → getD r (v * 16 + s) false ≡ isUnbound read-as v s
+  unfolding isUnbound
+  marks-are r h v s k m =
+      h .is v s k m ∙ ap (λ z. getD z s false) (reach-is (kept draft) read-as v k (subst (λ cs. Rep (kept (draftAfter emptyDraft cs)) (edgesFrom 0 (read-as .states))) same-commands (steps-kept fields read-as (complete .counts) (complete .operands))))
 
-    absent-is : draft .found .absent ≡ placeOf (firstAbsent limit 0 (commands read-as))
-    unfolding emptyDraft place
-    absent-is = absent-after limit free emptyDraft (w .es) none refl ∙ ap (λ cs. placeOf (firstAbsent limit 0 cs)) (sym same-commands)
+  -- the places are those of the commands
+  places-is : draft .places ≡ placesFrom 0 (replicate 8 false) 0 (replicate 145 nowhere) (w .es)
+  unfolding emptyDraft
+  places-is = places-after emptyDraft (w .es)
 
-    unbound-is : ((v s : ℕ) → v < 8 → s < 16 → getD free (v * 16 + s) false ≡ isUnbound read-as v s) → draft .found .unbound ≡ placeOf (firstUnbound (isUnbound read-as) 0 [] 0 (commands read-as))
-    unbound-is h = unbound-after limit free fields (isUnbound read-as) h (w .es) (w .reached .operands) (w .reached .follows) ∙ ap (λ cs. placeOf (firstUnbound (isUnbound read-as) 0 [] 0 cs)) (sym same-commands)
+  -- the file's bytes can be counted
+  short : length l < 2 ^ 64 → length (flatMap encodeCommand (w .es)) ≤ nowhere
+  unfolding nowhere
+  short h = let a = length-is in let p = w .reached .place in omega (arith, a, p, h)
 
-  -- after END: the first walk's draft with the places that the second found
-  judge-is : (limit : ℕ) (free free₂ : List Bool) → Free (draft limit free .edges) free₂ → judgedWith (draft limit free) (draft (draft limit free .summary .states) free₂ .found) ≡ answerOf (judge read-as)
+  -- after END: what is judged is the first absent state, a dead start, the first unbound variable
+  judge-is : length l < 2 ^ 64 → (free : List Bool) → Free (kept draft) free → judgedWith draft (lowestOf (replicate 128 false) (128 + draft .summary .states) (draft .places)) (lowestOf free 145 (draft .places)) ≡ answerOf (judge read-as)
   unfolding judgedWith judge
-  judge-is limit free free₂ h =
-      let d = draft limit free in
-      let n = states-is limit free in
-      let a = absent-is (d .summary .states) free₂ ∙ ap (λ k. placeOf (firstAbsent k 0 (commands read-as))) n in
-      let u = unbound-is (d .summary .states) free₂ (marks-are limit free free₂ h) in
-      let z = ap (λ k. ltb 1 (getD k 0 0)) (kinds-is limit free) ∙ dead-start (read-as .states) (complete .nonempty) in
-      rw (a, u, z) (judged d read-as (firstAbsent (length (read-as .states)) 0 (commands read-as)) (firstUnbound (isUnbound read-as) 0 [] 0 (commands read-as)) (deadStart (read-as .states)) (accepted-is limit free))
+  judge-is h free m =
+      let n = states-is in
+      let cs = w .es in
+      let few : length (read-as .states) ≤ 16 = complete .counts .states in
+      let a : lowestOf (replicate 128 false) (128 + draft .summary .states) (draft .places) ≡ num (firstAbsent (length (read-as .states)) 0 cs) = ap (λ k. lowestOf (replicate 128 false) (128 + k) (draft .places)) n ∙ ap (lowestOf (replicate 128 false) (128 + length (read-as .states))) places-is ∙ absent-place fields (length (read-as .states)) cs (w .reached .operands) (w .reached .follows) few (short h) in
+      let u : lowestOf free 145 (draft .places) ≡ num (firstUnbound (isUnbound read-as) 0 [] 0 cs) = ap (lowestOf free 145) places-is ∙ unbound-place fields free (isUnbound read-as) (marks-are free m) cs (w .reached .operands) (w .reached .follows) (short h) in
+      let z = ap (λ k. ltb 1 (getD k 0 0)) kinds-is ∙ dead-start (read-as .states) (complete .nonempty) in
+      rw (a, u, z, same-commands, found (firstAbsent (length (read-as .states)) 0 cs) (absent-below fields (length (read-as .states)) cs (w .reached .operands) (w .reached .follows) few (short h)), found (firstUnbound (isUnbound read-as) 0 [] 0 cs) (unbound-below fields free (isUnbound read-as) (marks-are free m) cs (w .reached .operands) (w .reached .follows) (short h))) (judged draft read-as (firstAbsent (length (read-as .states)) 0 cs) (firstUnbound (isUnbound read-as) 0 [] 0 cs) (deadStart (read-as .states)) accepted-is)
 
 module _ (kinds : List Kind) (l : List ℕ) (bytes : Bytes l) where
   -- a refused walk
-  pub answer-refused : (limit : ℕ) (free : List Bool) (first : Scan) (r : Refusal) → Scanned (length kinds) limit free l first → first .verdict ≡ Refused r → answerOf (refused r) ≡ answerOf (readFormula kinds l)
-  answer-refused limit free first r h e = sym (ap answerOf (refused-so kinds l bytes limit free r (ap (λ (x : Scan). x .verdict) (sym (h .is)) ∙ e)))
+  pub answer-refused : (scan : Scan) (r : Refusal) → Scanned (length kinds) l scan → scan .verdict ≡ Refused r → answerOf (refused r) ≡ answerOf (readFormula kinds l)
+  answer-refused scan r h e = sym (ap answerOf (refused-so kinds l bytes r (ap (λ (x : Scan). x .verdict) (sym (h .is)) ∙ e)))
 
   -- the draft of a walk that reached END
-  module _ (limit : ℕ) (free : List Bool) (first : Scan) (h : Scanned (length kinds) limit free l first) (e : first .verdict ≡ Accepted) where
+  module _ (scan : Scan) (h : Scanned (length kinds) l scan) (e : scan .verdict ≡ Accepted) where
     found-whole : Whole (length kinds) l (suc (length l)) start [] 0 l
-    found-whole = whole-of kinds l bytes limit free (ap (λ (x : Scan). x .verdict) (sym (h .is)) ∙ e)
+    found-whole = whole-of kinds l bytes (ap (λ (x : Scan). x .verdict) (sym (h .is)) ∙ e)
 
-    walked : (limit₂ : ℕ) (free₂ : List Bool) (second : Scan) → Scanned (length kinds) limit₂ free₂ l second → second .draft ≡ draftAfter limit₂ free₂ emptyDraft (found-whole .es)
+    walked : scan .draft ≡ draftAfter emptyDraft (found-whole .es)
     unfolding scanFile draftAfter
-    walked limit₂ free₂ second k = ap (λ (x : Scan). x .draft) (k .is ∙ found-whole .scans limit₂ free₂)
+    walked = ap (λ (x : Scan). x .draft) (h .is ∙ found-whole .scans)
 
-    reading-is : readFormula kinds l ≡ afterEnd (assemble (found-whole .es)) (first .draft .at + 1) (drop 1 (found-whole .left))
+    at-is : scan .draft .at ≡ found-whole .place
+    at-is = ap (λ (x : Draft). x .at) walked ∙ place-is (length kinds) l found-whole
+
+    reading-is : readFormula kinds l ≡ afterEnd (assemble (found-whole .es)) (scan .draft .at + 1) (drop 1 (found-whole .left))
     unfolding readFormula
-    reading-is = found-whole .reads ∙ ap (λ n. afterEnd (assemble (found-whole .es)) (n + 1) (drop 1 (found-whole .left))) (sym (ap (λ (x : Draft). x .at) (walked limit free first h) ∙ place-is (length kinds) l found-whole limit free))
+    reading-is = found-whole .reads ∙ ap (λ n. afterEnd (assemble (found-whole .es)) (n + 1) (drop 1 (found-whole .left))) (sym at-is)
 
-    length-so : length l ≡ first .draft .at + 1 + length (drop 1 (found-whole .left))
-    length-so = length-is (length kinds) l found-whole ∙ ap (λ n. n + 1 + length (drop 1 (found-whole .left))) (sym (ap (λ (x : Draft). x .at) (walked limit free first h) ∙ place-is (length kinds) l found-whole limit free))
+    length-so : length l ≡ scan .draft .at + 1 + length (drop 1 (found-whole .left))
+    length-so = length-is (length kinds) l found-whole ∙ ap (λ n. n + 1 + length (drop 1 (found-whole .left))) (sym at-is)
 
     -- bytes behind END
-    pub answer-leftover : first .draft .at + 1 < length l → answerOf (refused (Leftover InFormula (first .draft .at + 1))) ≡ answerOf (readFormula kinds l)
-    answer-leftover k = sym (ap answerOf (reading-is ∙ after-more (assemble (found-whole .es)) (first .draft .at + 1) (drop 1 (found-whole .left)) (let n = length-so in omega arith)))
+    pub answer-leftover : scan .draft .at + 1 < length l → answerOf (refused (Leftover InFormula (scan .draft .at + 1))) ≡ answerOf (readFormula kinds l)
+    answer-leftover k = sym (ap answerOf (reading-is ∙ after-more (assemble (found-whole .es)) (scan .draft .at + 1) (drop 1 (found-whole .left)) (let n = length-so in omega arith)))
 
-    -- nothing behind END: what the second walk found is judged
-    pub answer-judged : length l ≤ first .draft .at + 1 → (free₂ : List Bool) (second : Scan) → Free (first .draft .edges) free₂ → Scanned (length kinds) (first .draft .summary .states) free₂ l second → judgedWith (first .draft) (second .draft .found) ≡ answerOf (readFormula kinds l)
-    answer-judged k free₂ second q s =
-        let a = walked limit free first h in
-        let b = walked (first .draft .summary .states) free₂ second s ∙ ap (λ (x : Draft). draftAfter (x .summary .states) free₂ emptyDraft (found-whole .es)) a in
-        ap (λ (x : Draft). judgedWith x (second .draft .found)) a
-        ∙ ap (λ (x : Draft). judgedWith (draftAfter limit free emptyDraft (found-whole .es)) (x .found)) b
-        ∙ judge-is (length kinds) l found-whole limit free free₂ (subst (λ (x : Draft). Free (x .edges) free₂) a q)
-        ∙ sym (ap answerOf (reading-is ∙ after-none (assemble (found-whole .es)) (first .draft .at + 1) (drop 1 (found-whole .left)) (let n = length-so in omega arith)))
+    -- nothing behind END: what was gathered is judged
+    pub answer-judged : length l < 2 ^ 64 → length l ≤ scan .draft .at + 1 → (free : List Bool) → Free (kept (scan .draft)) free → judgedWith (scan .draft) (lowestOf (replicate 128 false) (128 + scan .draft .summary .states) (scan .draft .places)) (lowestOf free 145 (scan .draft .places)) ≡ answerOf (readFormula kinds l)
+    answer-judged s k free q =
+        ap (λ (x : Draft). judgedWith x (lowestOf (replicate 128 false) (128 + x .summary .states) (x .places)) (lowestOf free 145 (x .places))) walked
+        ∙ judge-is (length kinds) l found-whole s free (subst (λ (x : Draft). Free (kept x) free) walked q)
+        ∙ sym (ap answerOf (reading-is ∙ after-none (assemble (found-whole .es)) (scan .draft .at + 1) (drop 1 (found-whole .left)) (let n = length-so in omega arith)))

@@ -14,26 +14,36 @@ use lib.ListN.{length, getD, set, drop, replicate, length-append, length-set, le
 use lib.Seq.{getD-set-same, getD-set-other, append-snoc, drop-cons}
 use Rattle.base.specs.Lists.{All}
 use Rattle.formula_reader.specs.declared.Draft.{Draft}
-use Rattle.formula_reader.specs.declared.Edges.{Edges}
 use Rattle.formula_reader.specs.declared.Summary.{Summary as Tally}
 use Rattle.formula.specs.Formula.{Expr, Clause, TEST, TESTV, BIND, Step, State, Formula}
 use Rattle.formula.specs.Encode.{Command, TIED, STATE, STEP, CLAUSE, GUARD, guardCommands, stepCommands, stateCommands, commands}
 use Rattle.formula.specs.Correct.{StateFits}
 use Rattle.formula.specs.Unbound.{binds, Edge, edgesFrom, mark, round, rounds, unbound}
 use Rattle.formula_reader.specs.Scan.{emptyDraft}
-use Rattle.formula_reader.specs.Reach.{markBy, roundFrom, reachFrom, reachOf}
+use Rattle.formula_reader.specs.Reach.{Edges, edges, markBy, roundFrom, reachFrom, reachOf}
 use Rattle.formula.proofs.Basics.{all-left, all-right}
 use Rattle.formula.proofs.Commands.{Operands}
 use Rattle.formula.proofs.Counts.{Counts}
-use Rattle.formula_reader.proofs.CodeOutline.{or-false, set-mark}
-use Rattle.formula_reader.proofs.CodeBound.{binds-snoc}
+use Rattle.formula_reader.proofs.CodeOutline.{or-false, or-assoc-bool, set-mark}
 use Rattle.formula_reader.proofs.CodeTrace.{addC, draftAfter}
+
+-- one clause more
+pub binds-snoc : (v : ℕ) (xs : List Clause) (c : Clause) → binds v (xs ++ (c ∷ [])) ≡ (binds v xs || binds v (c ∷ []))
+unfolding binds
+binds-snoc v [] c = refl
+binds-snoc v (TEST f o x ∷ xs) c = binds-snoc v xs c
+binds-snoc v (TESTV f o w ∷ xs) c = binds-snoc v xs c
+binds-snoc v (BIND f w ∷ xs) c = ap (λ b. eqb w v || b) (binds-snoc v xs c) ∙ sym (or-assoc-bool (eqb w v) (binds v xs) (binds v (c ∷ [])))
 
 abbrev noEdge : Edge
 noEdge = record { from = 0; step = record { target = 0; clauses = []; guard = none } }
 
 abbrev in-state : ℕ → Step → Edge
 in-state n t = record { from = n; step = t }
+
+-- the steps of a draft
+abbrev pub kept : Draft → Edges
+kept d = edges (d .count) (d .from) (d .to) (d .bound)
 
 -- the steps kept are those of the list
 pub record Rep (g : Edges) (es : List Edge) : Type 0 where
@@ -67,7 +77,7 @@ abbrev edge : ℕ → ℕ → List Clause → Option Expr → Edge
 edge n t xs q = record { from = n; step = record { target = t; clauses = xs; guard = q } }
 
 -- a STEP is one more
-rep-step : (g : Edges) (es : List Edge) (s : Tally) (t : ℕ) (q : Option Expr) → length es < 128 → Rep g es → Rep (Rattle.formula_reader.specs.Scan.edged g s (Rattle.formula_reader.specs.declared.Command.the-variants.Step t)) (es ++ (edge (s .states - 1) t [] q ∷ []))
+rep-step : (g : Edges) (es : List Edge) (s : Tally) (t : ℕ) (q : Option Expr) → length es < 128 → Rep g es → Rep (edges (g .count + 1) (set (g .from) (g .count) (s .states - 1)) (set (g .to) (g .count) t) (g .bound)) (es ++ (edge (s .states - 1) t [] q ∷ []))
 unfolding binds
 rep-step g es s t q h r =
     let e = edge (s .states - 1) t [] q in
@@ -92,11 +102,11 @@ rep-step g es s t q h r =
     }
 
 -- only the clauses of the last step change
-rep-last : (g : Edges) (es : List Edge) (n t : ℕ) (xs ys : List Clause) (q : Option Expr) (b o : List Bool) → length es < 128 → length b ≡ 1024
+rep-last : (g : Edges) (es : List Edge) (n t : ℕ) (xs ys : List Clause) (q : Option Expr) (b : List Bool) → length es < 128 → length b ≡ 1024
     → ((i v : ℕ) → (i ≡ length es → ⊥) → i < 128 → v < 8 → getD b (i * 8 + v) false ≡ getD (g .bound) (i * 8 + v) false)
     → ((v : ℕ) → v < 8 → getD b (length es * 8 + v) false ≡ binds v ys)
-    → Rep g (es ++ (edge n t xs q ∷ [])) → Rep (record { count = g .count; from = g .from; to = g .to; bound = b; own = o }) (es ++ (edge n t ys q ∷ []))
-rep-last g es n t xs ys q b o few size others last r =
+    → Rep g (es ++ (edge n t xs q ∷ [])) → Rep (edges (g .count) (g .from) (g .to) b) (es ++ (edge n t ys q ∷ []))
+rep-last g es n t xs ys q b few size others last r =
     let e = edge n t xs q in
     let f = edge n t ys q in
     let same : length (es ++ (e ∷ [])) ≡ length (es ++ (f ∷ [])) = size-snoc es e ∙ sym (size-snoc es f) in
@@ -128,7 +138,7 @@ last-bound g es n t xs q v l r = r .bound (length es) v (let s = size-snoc es (e
 -- a clause that binds nothing changes nothing
 rep-plain : (g : Edges) (es : List Edge) (n t : ℕ) (xs : List Clause) (q : Option Expr) (c : Clause) → length es < 128 → ((v : ℕ) → binds v (c ∷ []) ≡ false) → Rep g (es ++ (edge n t xs q ∷ [])) → Rep g (es ++ (edge n t (xs ++ (c ∷ [])) q ∷ []))
 rep-plain g es n t xs q c few z r =
-    rep-last g es n t xs (xs ++ (c ∷ [])) q (g .bound) (g .own) few (r .bound-size) (λ i v p m l. refl)
+    rep-last g es n t xs (xs ++ (c ∷ [])) q (g .bound) few (r .bound-size) (λ i v p m l. refl)
     (λ v l. last-bound g es n t xs q v l r ∙ sym (binds-snoc v xs c ∙ ap (λ b. binds v xs || b) (z v) ∙ or-false (binds v xs))) r
 
 -- places of two variables of one step
@@ -137,86 +147,86 @@ same-place k v w true e = eq-eqb (k * 8 + v) (k * 8 + w) (ap (λ j. k * 8 + j) (
 same-place k v w false e = ne-eqb (k * 8 + v) (k * 8 + w) (λ q. eqb-false v w e (omega arith))
 
 -- a BIND marks its variable
-rep-bind : (g : Edges) (es : List Edge) (n t : ℕ) (xs : List Clause) (q : Option Expr) (f v : ℕ) (o : List Bool) → length es < 128 → v < 8 → Rep g (es ++ (edge n t xs q ∷ []))
-    → Rep (record { count = g .count; from = g .from; to = g .to; bound = set (g .bound) ((g .count - 1) * 8 + v) true; own = o }) (es ++ (edge n t (xs ++ (BIND f v ∷ [])) q ∷ []))
+rep-bind : (g : Edges) (es : List Edge) (n t : ℕ) (xs : List Clause) (q : Option Expr) (f v : ℕ) → length es < 128 → v < 8 → Rep g (es ++ (edge n t xs q ∷ []))
+    → Rep (edges (g .count) (g .from) (g .to) (set (g .bound) ((g .count - 1) * 8 + v) true)) (es ++ (edge n t (xs ++ (BIND f v ∷ [])) q ∷ []))
 unfolding binds
-rep-bind g es n t xs q f v o few h r =
+rep-bind g es n t xs q f v few h r =
     let c : g .count - 1 ≡ length es = (let s = size-snoc es (edge n t xs q) in let k = r .count in omega arith) in
     let b = set (g .bound) ((g .count - 1) * 8 + v) true in
     let z = r .bound-size in
-    rep-last g es n t xs (xs ++ (BIND f v ∷ [])) q b o few (length-set (g .bound) ((g .count - 1) * 8 + v) true ∙ r .bound-size)
+    rep-last g es n t xs (xs ++ (BIND f v ∷ [])) q b few (length-set (g .bound) ((g .count - 1) * 8 + v) true ∙ r .bound-size)
     (λ i w p m l. getD-set-other (g .bound) ((g .count - 1) * 8 + v) (i * 8 + w) true false (λ y. p (omega arith)))
     (λ w l. set-mark (g .bound) ((g .count - 1) * 8 + v) (length es * 8 + w) (omega arith) ∙ ap (λ j. getD (g .bound) (length es * 8 + w) false || eqb (j * 8 + v) (length es * 8 + w)) c ∙ ap (λ x. getD (g .bound) (length es * 8 + w) false || x) (same-place (length es) v w (eqb v w) refl) ∙ ap (λ x. x || eqb v w) (last-bound g es n t xs q w l r) ∙ sym (binds-snoc w xs (BIND f v) ∙ ap (λ x. binds w xs || x) (or-false (eqb v w)))) r
 
-module _ (limit : ℕ) (free : List Bool) (fields : ℕ) where
-  pub after-append : (d : Draft) (xs ys : List Command) → draftAfter limit free d (xs ++ ys) ≡ draftAfter limit free (draftAfter limit free d xs) ys
+module _ (fields : ℕ) where
+  pub after-append : (d : Draft) (xs ys : List Command) → draftAfter d (xs ++ ys) ≡ draftAfter (draftAfter d xs) ys
   unfolding draftAfter
   after-append d [] ys = refl
-  after-append d (x ∷ xs) ys = after-append (addC limit free d x) xs ys
+  after-append d (x ∷ xs) ys = after-append (addC d x) xs ys
 
   -- the draft keeps the steps es, in a state of the file
   record Keeps (d : Draft) (es : List Edge) (states : ℕ) : Type 0 where
-    rep : Rep (d .edges) es
+    rep : Rep (kept d) es
     seen : d .summary .states ≡ states
 
-  keep-clause : (d : Draft) (es : List Edge) (s n t : ℕ) (xs : List Clause) (q : Option Expr) (c : Clause) → length es < 128 → Operands fields (CLAUSE c) → Keeps d (es ++ (edge n t xs q ∷ [])) s → Keeps (addC limit free d (CLAUSE c)) (es ++ (edge n t (xs ++ (c ∷ [])) q ∷ [])) s
+  keep-clause : (d : Draft) (es : List Edge) (s n t : ℕ) (xs : List Clause) (q : Option Expr) (c : Clause) → length es < 128 → Operands fields (CLAUSE c) → Keeps d (es ++ (edge n t xs q ∷ [])) s → Keeps (addC d (CLAUSE c)) (es ++ (edge n t (xs ++ (c ∷ [])) q ∷ [])) s
   unfolding binds
-  keep-clause d es s n t xs q (TEST f o x) few k h = record { rep = rep-plain (d .edges) es n t xs q (TEST f o x) few (λ v. refl) (h .rep); seen = h .seen }
-  keep-clause d es s n t xs q (TESTV f o v) few k h = record { rep = rep-plain (d .edges) es n t xs q (TESTV f o v) few (λ w. refl) (h .rep); seen = h .seen }
-  keep-clause d es s n t xs q (BIND f v) few k h = record { rep = rep-bind (d .edges) es n t xs q f v (set (d .edges .own) v true) few (k .1) (h .rep); seen = h .seen }
+  keep-clause d es s n t xs q (TEST f o x) few k h = record { rep = rep-plain (kept d) es n t xs q (TEST f o x) few (λ v. refl) (h .rep); seen = h .seen }
+  keep-clause d es s n t xs q (TESTV f o v) few k h = record { rep = rep-plain (kept d) es n t xs q (TESTV f o v) few (λ w. refl) (h .rep); seen = h .seen }
+  keep-clause d es s n t xs q (BIND f v) few k h = record { rep = rep-bind (kept d) es n t xs q f v few (k .1) (h .rep); seen = h .seen }
 
-  keep-clauses : (d : Draft) (es : List Edge) (s n t : ℕ) (xs ys : List Clause) (q : Option Expr) → length es < 128 → All (Operands fields) (map CLAUSE ys) → Keeps d (es ++ (edge n t xs q ∷ [])) s → Keeps (draftAfter limit free d (map CLAUSE ys)) (es ++ (edge n t (xs ++ ys) q ∷ [])) s
+  keep-clauses : (d : Draft) (es : List Edge) (s n t : ℕ) (xs ys : List Clause) (q : Option Expr) → length es < 128 → All (Operands fields) (map CLAUSE ys) → Keeps d (es ++ (edge n t xs q ∷ [])) s → Keeps (draftAfter d (map CLAUSE ys)) (es ++ (edge n t (xs ++ ys) q ∷ [])) s
   unfolding draftAfter
   keep-clauses d es s n t xs [] q few k h = subst (λ z. Keeps d (es ++ (edge n t z q ∷ [])) s) (sym (append-nil xs)) h
   keep-clauses d es s n t xs (c ∷ ys) q few k h =
-      subst (λ z. Keeps (draftAfter limit free (addC limit free d (CLAUSE c)) (map CLAUSE ys)) (es ++ (edge n t z q ∷ [])) s) (append-snoc xs c ys) (keep-clauses (addC limit free d (CLAUSE c)) es s n t (xs ++ (c ∷ [])) ys q few (k .1) (keep-clause d es s n t xs q c few (k .0) h))
+      subst (λ z. Keeps (draftAfter (addC d (CLAUSE c)) (map CLAUSE ys)) (es ++ (edge n t z q ∷ [])) s) (append-snoc xs c ys) (keep-clauses (addC d (CLAUSE c)) es s n t (xs ++ (c ∷ [])) ys q few (k .1) (keep-clause d es s n t xs q c few (k .0) h))
 
-  keep-guard : (d : Draft) (es : List Edge) (s : ℕ) (q : Option Expr) → Keeps d es s → Keeps (draftAfter limit free d (guardCommands q)) es s
+  keep-guard : (d : Draft) (es : List Edge) (s : ℕ) (q : Option Expr) → Keeps d es s → Keeps (draftAfter d (guardCommands q)) es s
   unfolding draftAfter guardCommands
   keep-guard d es s none h = h
   keep-guard d es s (some e) h = record { rep = h .rep; seen = h .seen }
 
   -- a step with its clauses and guard is one more
-  keep-step : (d : Draft) (es : List Edge) (n : ℕ) (t : Step) → length es < 128 → All (Operands fields) (stepCommands t) → Keeps d es (suc n) → Keeps (draftAfter limit free d (stepCommands t)) (es ++ (record { from = n; step = t } ∷ [])) (suc n)
+  keep-step : (d : Draft) (es : List Edge) (n : ℕ) (t : Step) → length es < 128 → All (Operands fields) (stepCommands t) → Keeps d es (suc n) → Keeps (draftAfter d (stepCommands t)) (es ++ (record { from = n; step = t } ∷ [])) (suc n)
   unfolding draftAfter stepCommands
   keep-step d es n t few k h =
-      let d₁ = addC limit free d (STEP (t .target)) in
+      let d₁ = addC d (STEP (t .target)) in
       let m : d .summary .states - 1 ≡ n = (let z = h .seen in omega arith) in
-      let r₁ : Keeps d₁ (es ++ (edge n (t .target) [] (t .guard) ∷ [])) (suc n) = record { rep = subst (λ j. Rep (d₁ .edges) (es ++ (edge j (t .target) [] (t .guard) ∷ []))) m (rep-step (d .edges) es (d .summary) (t .target) (t .guard) few (h .rep)); seen = h .seen } in
+      let r₁ : Keeps d₁ (es ++ (edge n (t .target) [] (t .guard) ∷ [])) (suc n) = record { rep = subst (λ j. Rep (kept d₁) (es ++ (edge j (t .target) [] (t .guard) ∷ []))) m (rep-step (kept d) es (d .summary) (t .target) (t .guard) few (h .rep)); seen = h .seen } in
       let r₂ = keep-clauses d₁ es (suc n) n (t .target) [] (t .clauses) (t .guard) few (all-left (Operands fields) (map CLAUSE (t .clauses)) (guardCommands (t .guard)) (k .1)) r₁ in
-      subst (λ (x : Draft). Keeps x (es ++ (record { from = n; step = t } ∷ [])) (suc n)) (sym (after-append d₁ (map CLAUSE (t .clauses)) (guardCommands (t .guard)))) (keep-guard (draftAfter limit free d₁ (map CLAUSE (t .clauses))) (es ++ (record { from = n; step = t } ∷ [])) (suc n) (t .guard) r₂)
+      subst (λ (x : Draft). Keeps x (es ++ (record { from = n; step = t } ∷ [])) (suc n)) (sym (after-append d₁ (map CLAUSE (t .clauses)) (guardCommands (t .guard)))) (keep-guard (draftAfter d₁ (map CLAUSE (t .clauses))) (es ++ (record { from = n; step = t } ∷ [])) (suc n) (t .guard) r₂)
 
-  keep-steps : (d : Draft) (es : List Edge) (n : ℕ) (ts : List Step) → length es + length ts ≤ 128 → All (Operands fields) (flatMap stepCommands ts) → Keeps d es (suc n) → Keeps (draftAfter limit free d (flatMap stepCommands ts)) (es ++ map (λ (t : Step). record { from = n; step = t }) ts) (suc n)
+  keep-steps : (d : Draft) (es : List Edge) (n : ℕ) (ts : List Step) → length es + length ts ≤ 128 → All (Operands fields) (flatMap stepCommands ts) → Keeps d es (suc n) → Keeps (draftAfter d (flatMap stepCommands ts)) (es ++ map (λ (t : Step). record { from = n; step = t }) ts) (suc n)
   unfolding draftAfter flatMap
   keep-steps d es n [] few k h = subst (λ z. Keeps d z (suc n)) (sym (append-nil es)) h
   keep-steps d es n (t ∷ ts) few k h =
-      let d₁ = draftAfter limit free d (stepCommands t) in
+      let d₁ = draftAfter d (stepCommands t) in
       let e : Edge = record { from = n; step = t } in
       let r = keep-steps d₁ (es ++ (e ∷ [])) n ts (let s = size-snoc es e in omega arith) (all-right (Operands fields) (stepCommands t) (flatMap stepCommands ts) k) (keep-step d es n t (omega arith) (all-left (Operands fields) (stepCommands t) (flatMap stepCommands ts) k) h) in
-      subst (λ (x : Draft). Keeps x (es ++ (e ∷ map (λ (t : Step). record { from = n; step = t }) ts)) (suc n)) (sym (after-append d (stepCommands t) (flatMap stepCommands ts))) (subst (λ z. Keeps (draftAfter limit free d₁ (flatMap stepCommands ts)) z (suc n)) (append-snoc es e (map (λ (t : Step). record { from = n; step = t }) ts)) r)
+      subst (λ (x : Draft). Keeps x (es ++ (e ∷ map (λ (t : Step). record { from = n; step = t }) ts)) (suc n)) (sym (after-append d (stepCommands t) (flatMap stepCommands ts))) (subst (λ z. Keeps (draftAfter d₁ (flatMap stepCommands ts)) z (suc n)) (append-snoc es e (map (λ (t : Step). record { from = n; step = t }) ts)) r)
 
   -- the states from number n on
-  keep-states : (d : Draft) (es : List Edge) (n : ℕ) (xs : List State) → length es + 8 * length xs ≤ 128 → All StateFits xs → All (Operands fields) (flatMap stateCommands xs) → Keeps d es n → Rep (draftAfter limit free d (flatMap stateCommands xs) .edges) (es ++ edgesFrom n xs)
+  keep-states : (d : Draft) (es : List Edge) (n : ℕ) (xs : List State) → length es + 8 * length xs ≤ 128 → All StateFits xs → All (Operands fields) (flatMap stateCommands xs) → Keeps d es n → Rep (kept (draftAfter d (flatMap stateCommands xs))) (es ++ edgesFrom n xs)
   unfolding draftAfter flatMap stateCommands edgesFrom
-  keep-states d es n [] few a k h = subst (Rep (d .edges)) (sym (append-nil es)) (h .rep)
+  keep-states d es n [] few a k h = subst (Rep (kept d)) (sym (append-nil es)) (h .rep)
   keep-states d es n (x ∷ xs) few a k h =
-      let d₀ = addC limit free d (STATE (x .kind)) in
-      let d₁ = draftAfter limit free d₀ (flatMap stepCommands (x .steps)) in
+      let d₀ = addC d (STATE (x .kind)) in
+      let d₁ = draftAfter d₀ (flatMap stepCommands (x .steps)) in
       let ts : List Edge = map (λ (t : Step). record { from = n; step = t }) (x .steps) in
       let b = a .0 .steps in
       let r₀ : Keeps d₀ es (suc n) = record { rep = record { count = h .rep .count; from-size = h .rep .from-size; to-size = h .rep .to-size; bound-size = h .rep .bound-size; from = h .rep .from; to = h .rep .to; bound = h .rep .bound; fresh = h .rep .fresh }; seen = add-one (d .summary .states) ∙ ap suc (h .seen) } in
       let r₁ = keep-steps d₀ es n (x .steps) (omega arith) (all-left (Operands fields) (flatMap stepCommands (x .steps)) (flatMap stateCommands xs) (k .1)) r₀ in
       let l : length (es ++ ts) ≡ length es + length (x .steps) = length-append es ts ∙ ap (λ j. length es + j) (length-map (x .steps) (in-state n)) in
       let r₂ = keep-states d₁ (es ++ ts) (suc n) xs (omega arith) (a .1) (all-right (Operands fields) (flatMap stepCommands (x .steps)) (flatMap stateCommands xs) (k .1)) r₁ in
-      subst (λ (y : Draft). Rep (y .edges) (es ++ (ts ++ edgesFrom (suc n) xs))) (sym (after-append d₀ (flatMap stepCommands (x .steps)) (flatMap stateCommands xs))) (subst (Rep (draftAfter limit free d₁ (flatMap stateCommands xs) .edges)) (append-assoc es ts (edgesFrom (suc n) xs)) r₂)
+      subst (λ (y : Draft). Rep (kept y) (es ++ (ts ++ edgesFrom (suc n) xs))) (sym (after-append d₀ (flatMap stepCommands (x .steps)) (flatMap stateCommands xs))) (subst (Rep (kept (draftAfter d₁ (flatMap stateCommands xs)))) (append-assoc es ts (edgesFrom (suc n) xs)) r₂)
 
   -- TIEDs are no steps
-  keep-tied : (d : Draft) (es : List Edge) (n : ℕ) (vs : List ℕ) → Keeps d es n → Keeps (draftAfter limit free d (map TIED vs)) es n
+  keep-tied : (d : Draft) (es : List Edge) (n : ℕ) (vs : List ℕ) → Keeps d es n → Keeps (draftAfter d (map TIED vs)) es n
   unfolding draftAfter
   keep-tied d es n [] h = h
-  keep-tied d es n (v ∷ vs) h = keep-tied (addC limit free d (TIED v)) es n vs (record { rep = h .rep; seen = h .seen })
+  keep-tied d es n (v ∷ vs) h = keep-tied (addC d (TIED v)) es n vs (record { rep = h .rep; seen = h .seen })
 
-  rep-start : Rep (emptyDraft .edges) []
+  rep-start : Rep (kept emptyDraft) []
   unfolding emptyDraft
   rep-start = record { count = refl; from-size = refl; to-size = refl; bound-size = refl; from = λ i h. absurd (omega arith); to = λ i h. absurd (omega arith); bound = λ i v h l. absurd (omega arith); fresh = λ i v h m l. getD-replicate 1024 (i * 8 + v) false false (omega arith) }
 
@@ -225,12 +235,12 @@ module _ (limit : ℕ) (free : List Bool) (fields : ℕ) where
   keep-start = record { rep = rep-start; seen = refl }
 
   -- the steps of a formula
-  pub steps-kept : (f : Formula) → Counts f → All (Operands fields) (commands f) → Rep (draftAfter limit free emptyDraft (commands f) .edges) (edgesFrom 0 (f .states))
+  pub steps-kept : (f : Formula) → Counts f → All (Operands fields) (commands f) → Rep (kept (draftAfter emptyDraft (commands f))) (edgesFrom 0 (f .states))
   unfolding commands
   steps-kept f c k =
       let n = c .states in
-      subst (λ (y : Draft). Rep (y .edges) (edgesFrom 0 (f .states))) (sym (after-append emptyDraft (map TIED (f .tied)) (flatMap stateCommands (f .states))))
-      (keep-states (draftAfter limit free emptyDraft (map TIED (f .tied))) [] 0 (f .states) (omega arith) (c .each) (all-right (Operands fields) (map TIED (f .tied)) (flatMap stateCommands (f .states)) k) (keep-tied emptyDraft [] 0 (f .tied) keep-start))
+      subst (λ (y : Draft). Rep (kept y) (edgesFrom 0 (f .states))) (sym (after-append emptyDraft (map TIED (f .tied)) (flatMap stateCommands (f .states))))
+      (keep-states (draftAfter emptyDraft (map TIED (f .tied))) [] 0 (f .states) (omega arith) (c .each) (all-right (Operands fields) (map TIED (f .tied)) (flatMap stateCommands (f .states)) k) (keep-tied emptyDraft [] 0 (f .tied) keep-start))
 
 mark-rep : (m : List Bool) (v : ℕ) (x : Edge) (a b : ℕ) (c : Bool) → a ≡ x .from → b ≡ x .step .target → c ≡ binds v (x .step .clauses) → markBy m a b c ≡ mark v m x
 unfolding markBy mark

@@ -14,14 +14,14 @@ use Rattle.refusal.specs.declared.Refusal.{Refusal}
 use Rattle.refusal.specs.declared.Refusal.the-variants.{CutShort, Foreign, Value, Surplus}
 use Rattle.formula_reader.specs.declared.Summary.{Summary as Counts}
 use Rattle.formula_reader.specs.declared.Command.{Command as Kept}
-use Rattle.formula_reader.specs.declared.Command.the-variants.{State}
+use Rattle.formula_reader.specs.declared.Command.the-variants.{State, Step, Test, Testv, Bind, Tied}
 use Rattle.formula_reader.specs.declared.Next.{Next as Read}
 use Rattle.formula_reader.specs.declared.Next.the-variants.{Taken, Bad}
 use Rattle.formula.specs.Formula.{Clause, TEST, TESTV, BIND}
 use Rattle.formula.specs.Encode.{Command, TIED, STATE, STEP, CLAUSE, GUARD, kindByte, encodeExpr, encodeClause, encodeCommand}
 use Rattle.formula.specs.Read.{Summary, Opcode, end-op, state-op, step-op, test-op, testv-op, bind-op, guard-op, tied-op, other-op, opcode, allowed, room, operatorOf, kindOf, ExprNext, expression, failed, readExpr, Next, command, end, bad, operands, guardOf, operandsOf, next}
 use Rattle.formula_reader.specs.Prefix.{shape}
-use Rattle.formula_reader.specs.Take.{told, opcodeShape, commandShape, nextShape, allowedIn, roomIn, operandsAt, stateAt, stepAt, tiedAt, testAt, testvAt, bindAt, guardAt, takenAt, nextAt}
+use Rattle.formula_reader.specs.Take.{told, opcodeShape, commandShape, guardNoted, NextEnd, goes-on, ends, breaks, nextEnd, nextShape, allowedIn, roomIn, operandsAt, stateAt, stepAt, tiedAt, testAt, testvAt, bindAt, guardAt, takenAt, nextAt}
 use Rattle.formula_reader.proofs.CodeGuard.{ltb-suc, suc-eqb, Vars, Facts, Fact, read-fact}
 
 -- a kind's byte names it
@@ -56,51 +56,51 @@ room-is s guard-op = refl
 room-is s tied-op = refl
 room-is s other-op = refl
 
-module _ (marks : List Bool) (limit at : ℕ) where
+module _ (st : ℕ) (own : List Bool) (at : ℕ) (places : List ℕ) where
   -- the tests before a command's own are the same
-  tested : (t u : Bool) (x : Next) (y : Read) (p q : Refusal) → nextShape marks limit at x ≡ y → nextShape marks limit at (cond t (cond u x (bad p)) (bad q)) ≡ cond t (cond u y (Bad p)) (Bad q)
+  tested : (t u : Bool) (x : Next) (y : NextEnd) (p q : Refusal) → nextShape st own at places x ≡ y → nextShape st own at places (cond t (cond u x (bad p)) (bad q)) ≡ cond t (cond u y (breaks p)) (breaks q)
   tested true true x y p q h = h
   tested true false x y p q h = refl
   tested false u x y p q h = refl
 
-  fixed-by : (t : Bool) (w : ℕ) (exist : Bool) (c : Command) (k : Kept) → (exist ≡ true → commandShape marks limit at c ≡ k)
-      → nextShape marks limit at (cond t (bad (CutShort InFormula at)) (cond exist (command c (1 + w)) (bad (Value InFormula at)))) ≡ cond t (Bad (CutShort InFormula at)) (cond exist (Taken k (suc w)) (Bad (Value InFormula at)))
-  fixed-by true w exist c k h = refl
-  fixed-by false w true c k h = rw (h refl, one-add)
-  fixed-by false w false c k h = refl
+  fixed-by : (t : Bool) (w : ℕ) (exist : Bool) (c : Command) (k : Kept) → guardNoted st own at places c ≡ places → (exist ≡ true → commandShape c ≡ k)
+      → nextShape st own at places (cond t (bad (CutShort InFormula at)) (cond exist (command c (1 + w)) (bad (Value InFormula at)))) ≡ nextEnd (cond t (Bad (CutShort InFormula at)) (cond exist (Taken k (suc w)) (Bad (Value InFormula at)))) places
+  fixed-by true w exist c k g h = refl
+  fixed-by false w true c k g h = rw (h refl, g, one-add)
+  fixed-by false w false c k g h = refl
 
   -- a command of a fixed width
-  fixed : (b : ℕ) (ops : List ℕ) (w : ℕ) (exist : Bool) (c : Command) (k : Kept) → (exist ≡ true → commandShape marks limit at c ≡ k) → nextShape marks limit at (operands at ops w exist c) ≡ operandsAt (b ∷ ops) at (suc w) exist k
+  fixed : (b : ℕ) (ops : List ℕ) (w : ℕ) (exist : Bool) (c : Command) (k : Kept) → guardNoted st own at places c ≡ places → (exist ≡ true → commandShape c ≡ k) → nextShape st own at places (operands at ops w exist c) ≡ nextEnd (operandsAt (b ∷ ops) at (suc w) exist k) places
   unfolding operandsAt
-  fixed b ops w exist c k h = rw (ltb-suc (length ops) w) (fixed-by (ltb (length ops) w) w exist c k h)
+  fixed b ops w exist c k g h = rw (ltb-suc (length ops) w) (fixed-by (ltb (length ops) w) w exist c k g h)
 
-  guard-is : (x : ExprNext) → nextShape marks limit at (guardOf x) ≡ Rattle.formula_reader.specs.Take.guardOf (shape marks limit (at + 1) x)
+  guard-is : (x : ExprNext) → nextShape st own at places (guardOf x) ≡ Rattle.formula_reader.specs.Take.guardOf (shape st own (at + 1) places x)
   guard-is (expression e u m) = refl
   guard-is (failed r) = refl
 
-  taken-is : (fields b : ℕ) (ops : List ℕ) (o : Opcode) → nextShape marks limit at (operandsOf fields at ops o) ≡ takenAt marks limit fields (b ∷ ops) at (opcodeShape o)
+  taken-is : (fields b : ℕ) (ops : List ℕ) (o : Opcode) → nextShape st own at places (operandsOf fields at ops o) ≡ takenAt st own fields (b ∷ ops) at places (opcodeShape o)
   unfolding stateAt stepAt tiedAt testAt testvAt bindAt guardAt
   taken-is fields b ops end-op = refl
-  taken-is fields b ops state-op = fixed b ops 1 (ltb (getD ops 0 0) 4) (STATE (kindOf (getD ops 0 0))) (State (getD ops 0 0)) (λ e. ap State (kind-of (getD ops 0 0) (ltb-true (getD ops 0 0) 4 e)))
-  taken-is fields b ops step-op = fixed b ops 1 true (STEP (getD ops 0 0)) _ (λ e. refl)
-  taken-is fields b ops test-op = fixed b ops 6 (ltb (getD ops 0 0) fields && ltb (getD ops 1 0) 6) (CLAUSE (TEST (getD ops 0 0) (operatorOf (getD ops 1 0)) (valueAt ops 2))) _ (λ e. refl)
-  taken-is fields b ops testv-op = fixed b ops 3 (ltb (getD ops 0 0) fields && ltb (getD ops 1 0) 6 && ltb (getD ops 2 0) 8) (CLAUSE (TESTV (getD ops 0 0) (operatorOf (getD ops 1 0)) (getD ops 2 0))) _ (λ e. refl)
-  taken-is fields b ops bind-op = fixed b ops 2 (ltb (getD ops 0 0) fields && ltb (getD ops 1 0) 8) (CLAUSE (BIND (getD ops 0 0) (getD ops 1 0))) _ (λ e. refl)
+  taken-is fields b ops state-op = fixed b ops 1 (ltb (getD ops 0 0) 4) (STATE (kindOf (getD ops 0 0))) (State (getD ops 0 0)) refl (λ e. ap State (kind-of (getD ops 0 0) (ltb-true (getD ops 0 0) 4 e)))
+  taken-is fields b ops step-op = fixed b ops 1 true (STEP (getD ops 0 0)) _ refl (λ e. refl)
+  taken-is fields b ops test-op = fixed b ops 6 (ltb (getD ops 0 0) fields && ltb (getD ops 1 0) 6) (CLAUSE (TEST (getD ops 0 0) (operatorOf (getD ops 1 0)) (valueAt ops 2))) _ refl (λ e. refl)
+  taken-is fields b ops testv-op = fixed b ops 3 (ltb (getD ops 0 0) fields && ltb (getD ops 1 0) 6 && ltb (getD ops 2 0) 8) (CLAUSE (TESTV (getD ops 0 0) (operatorOf (getD ops 1 0)) (getD ops 2 0))) _ refl (λ e. refl)
+  taken-is fields b ops bind-op = fixed b ops 2 (ltb (getD ops 0 0) fields && ltb (getD ops 1 0) 8) (CLAUSE (BIND (getD ops 0 0) (getD ops 1 0))) _ refl (λ e. refl)
   taken-is fields b ops guard-op = guard-is (readExpr 8 31 (at + 1) ops)
-  taken-is fields b ops tied-op = fixed b ops 1 (ltb (getD ops 0 0) 8) (TIED (getD ops 0 0)) _ (λ e. refl)
+  taken-is fields b ops tied-op = fixed b ops 1 (ltb (getD ops 0 0) 8) (TIED (getD ops 0 0)) _ refl (λ e. refl)
   taken-is fields b ops other-op = refl
 
   by-opcode : (fields : ℕ) (s : Counts) (b : ℕ) (ops : List ℕ) (o : Opcode)
-      → nextShape marks limit at (cond (allowed (told s) o) (cond (room (told s) o) (operandsOf fields at ops o) (bad (Surplus InFormula at))) (bad (Foreign InFormula at)))
-      ≡ cond (allowedIn s (opcodeShape o)) (cond (roomIn s (opcodeShape o)) (takenAt marks limit fields (b ∷ ops) at (opcodeShape o)) (Bad (Surplus InFormula at))) (Bad (Foreign InFormula at))
+      → nextShape st own at places (cond (allowed (told s) o) (cond (room (told s) o) (operandsOf fields at ops o) (bad (Surplus InFormula at))) (bad (Foreign InFormula at)))
+      ≡ cond (allowedIn s (opcodeShape o)) (cond (roomIn s (opcodeShape o)) (takenAt st own fields (b ∷ ops) at places (opcodeShape o)) (breaks (Surplus InFormula at))) (breaks (Foreign InFormula at))
   by-opcode fields s b ops o =
-      rw (← (allowed-is s o), ← (room-is s o)) (tested (allowed (told s) o) (room (told s) o) (operandsOf fields at ops o) (takenAt marks limit fields (b ∷ ops) at (opcodeShape o)) (Surplus InFormula at) (Foreign InFormula at) (taken-is fields b ops o))
+      rw (← (allowed-is s o), ← (room-is s o)) (tested (allowed (told s) o) (room (told s) o) (operandsOf fields at ops o) (takenAt st own fields (b ∷ ops) at places (opcodeShape o)) (Surplus InFormula at) (Foreign InFormula at) (taken-is fields b ops o))
 
-  -- the next command on bytes alone is the definition's
-  pub next-is : (fields : ℕ) (s : Counts) (bs : List ℕ) → nextShape marks limit at (next fields (told s) at bs) ≡ nextAt marks limit fields s bs at
-  unfolding next nextAt
-  next-is fields s [] = refl
-  next-is fields s (b ∷ ops) = rw (suc-eqb (length ops)) (by-opcode fields s b ops (opcode b))
+-- the next command on bytes alone is the definition's
+pub next-is : (own : List Bool) (at : ℕ) (places : List ℕ) (fields : ℕ) (s : Counts) (bs : List ℕ) → nextShape (s .states - 1) own at places (next fields (told s) at bs) ≡ nextAt s own fields bs at places
+unfolding next nextAt
+next-is own at places fields s [] = refl
+next-is own at places fields s (b ∷ ops) = rw (suc-eqb (length ops)) (by-opcode (s .states - 1) own at places fields s b ops (opcode b))
 
 -- what a command that was taken shows of the counts before it and of its variables
 abbrev pub Fits : Summary → Command → Type 0

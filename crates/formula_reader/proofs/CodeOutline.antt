@@ -19,14 +19,12 @@ use Rattle.formula_reader.specs.declared.Draft.{Draft}
 use Rattle.formula.specs.Formula.{TEST, TESTV, BIND, State}
 use Rattle.formula.specs.Encode.{Command, TIED, STATE, STEP, CLAUSE, GUARD, kindByte, encodeCommand}
 use Rattle.formula.specs.Lookup.{isTied, maskFrom}
-use Rattle.formula.specs.Read.{Summary, start, advance, gatherAll, orElse, when, absentIn, firstAbsent}
-use Rattle.formula_reader.specs.Prefix.{place, placeOf}
+use Rattle.formula.specs.Read.{Summary, start, advance, gatherAll}
 use Rattle.formula_reader.specs.Take.{told}
 use Rattle.formula_reader.specs.Scan.{emptyDraft}
 use Rattle.formula_reader.specs.Answer.{maskOf}
 use Rattle.formula.proofs.Gather.{Follows}
 use Rattle.formula.proofs.Table.{filled, fill}
-use Rattle.formula_reader.proofs.CodeGuard.{place-when, first-or, or-assoc}
 use Rattle.formula_reader.proofs.CodeTrace.{addC, draftAfter, told-add}
 
 pub or-true : (b : Bool) → (b || true) ≡ true
@@ -41,10 +39,6 @@ pub or-assoc-bool : (a b c : Bool) → ((a || b) || c) ≡ (a || (b || c))
 or-assoc-bool true b c = refl
 or-assoc-bool false b c = refl
 
-pub or-none : (o : Option ℕ) → orElse o none ≡ o
-or-none none = refl
-or-none (some p) = refl
-
 -- a mark set in a list
 pub set-mark : (m : List Bool) (v w : ℕ) → w < length m → getD (set m v true) w false ≡ (getD m w false || eqb v w)
 set-mark m v w h = by-test (eqb v w) refl
@@ -53,71 +47,55 @@ set-mark m v w h = by-test (eqb v w) refl
     by-test true e = subst (λ k. getD (set m k true) w false ≡ (getD m w false || true)) (sym (eqb-true v w e)) (getD-set-same m w true false h ∙ sym (or-true (getD m w false)))
     by-test false e = getD-set-other m v w true false (λ q. eqb-false v w e (sym q)) ∙ sym (or-false (getD m w false))
 
-module _ (limit : ℕ) (free : List Bool) where
-  -- the table is filled by each STEP
-  table-add : (d : Draft) (c : Command) → addC limit free d c .outline .table ≡ filled (told (d .summary)) (d .at) c (d .outline .table)
-  table-add d (TIED v) = refl
-  table-add d (STATE k) = refl
-  table-add d (STEP t) = refl
-  table-add d (CLAUSE (TEST f o x)) = refl
-  table-add d (CLAUSE (TESTV f o v)) = refl
-  table-add d (CLAUSE (BIND f v)) = refl
-  table-add d (GUARD e) = refl
+-- the table is filled by each STEP
+table-add : (d : Draft) (c : Command) → addC d c .table ≡ filled (told (d .summary)) (d .at) c (d .table)
+table-add d (TIED v) = refl
+table-add d (STATE k) = refl
+table-add d (STEP t) = refl
+table-add d (CLAUSE (TEST f o x)) = refl
+table-add d (CLAUSE (TESTV f o v)) = refl
+table-add d (CLAUSE (BIND f v)) = refl
+table-add d (GUARD e) = refl
 
-  pub table-after : (d : Draft) (cs : List Command) → draftAfter limit free d cs .outline .table ≡ fill (told (d .summary)) (d .at) (d .outline .table) cs
-  unfolding draftAfter fill
-  table-after d [] = refl
-  table-after d (c ∷ cs) = table-after (addC limit free d c) cs ∙ ap (λ s. fill s (d .at + length (encodeCommand c)) (addC limit free d c .outline .table) cs) (told-add limit free d c) ∙ ap (λ t. fill (advance (told (d .summary)) c) (d .at + length (encodeCommand c)) t cs) (table-add d c)
+pub table-after : (d : Draft) (cs : List Command) → draftAfter d cs .table ≡ fill (told (d .summary)) (d .at) (d .table) cs
+unfolding draftAfter fill
+table-after d [] = refl
+table-after d (c ∷ cs) = table-after (addC d c) cs ∙ ap (λ s. fill s (d .at + length (encodeCommand c)) (addC d c .table) cs) (told-add d c) ∙ ap (λ t. fill (advance (told (d .summary)) c) (d .at + length (encodeCommand c)) t cs) (table-add d c)
 
-  abbrev kindsIn : List State → List ℕ
-  kindsIn xs = map (λ (x : State). kindByte (x .kind)) xs
+abbrev kindsIn : List State → List ℕ
+kindsIn xs = map (λ (x : State). kindByte (x .kind)) xs
 
-  -- the kinds are those of the states
-  pub kinds-after : (d : Draft) (cs : List Command) (ks : List ℕ) → d .outline .kinds ≡ pad 16 0 ks → d .summary .states ≡ length ks → Follows (told (d .summary)) cs → draftAfter limit free d cs .outline .kinds ≡ pad 16 0 (ks ++ kindsIn (gatherAll cs .states))
-  unfolding draftAfter gatherAll
-  kinds-after d [] ks e n h = e ∙ ap (pad 16 0) (sym (append-nil ks))
-  kinds-after d (TIED v ∷ cs) ks e n h = kinds-after (addC limit free d (TIED v)) cs ks e n (subst (λ s. Follows s cs) (sym (told-add limit free d (TIED v))) (h .1))
-  kinds-after d (STATE k ∷ cs) ks e n h =
-      kinds-after (addC limit free d (STATE k)) cs (ks ++ (kindByte k ∷ []))
-      (ap (λ l. set l (d .summary .states) (kindByte k)) e ∙ ap (λ j. set (pad 16 0 ks) j (kindByte k)) n ∙ set-pad 16 0 ks (kindByte k) (subst (λ j. j < 16) n (h .0)))
-      (let l = length-append ks (kindByte k ∷ []) in omega arith)
-      (subst (λ s. Follows s cs) (sym (told-add limit free d (STATE k))) (h .1))
-      ∙ ap (pad 16 0) (append-snoc ks (kindByte k) (kindsIn (gatherAll cs .states)))
-  kinds-after d (STEP t ∷ cs) ks e n h = kinds-after (addC limit free d (STEP t)) cs ks e n (subst (λ s. Follows s cs) (sym (told-add limit free d (STEP t))) (h .1))
-  kinds-after d (CLAUSE (TEST f o x) ∷ cs) ks e n h = kinds-after (addC limit free d (CLAUSE (TEST f o x))) cs ks e n (subst (λ s. Follows s cs) (sym (told-add limit free d (CLAUSE (TEST f o x)))) (h .1))
-  kinds-after d (CLAUSE (TESTV f o v) ∷ cs) ks e n h = kinds-after (addC limit free d (CLAUSE (TESTV f o v))) cs ks e n (subst (λ s. Follows s cs) (sym (told-add limit free d (CLAUSE (TESTV f o v)))) (h .1))
-  kinds-after d (CLAUSE (BIND f v) ∷ cs) ks e n h = kinds-after (addC limit free d (CLAUSE (BIND f v))) cs ks e n (subst (λ s. Follows s cs) (sym (told-add limit free d (CLAUSE (BIND f v)))) (h .1))
-  kinds-after d (GUARD x ∷ cs) ks e n h = kinds-after (addC limit free d (GUARD x)) cs ks e n (subst (λ s. Follows s cs) (sym (told-add limit free d (GUARD x))) (h .1))
+-- the kinds are those of the states
+pub kinds-after : (d : Draft) (cs : List Command) (ks : List ℕ) → d .kinds ≡ pad 16 0 ks → d .summary .states ≡ length ks → Follows (told (d .summary)) cs → draftAfter d cs .kinds ≡ pad 16 0 (ks ++ kindsIn (gatherAll cs .states))
+unfolding draftAfter gatherAll
+kinds-after d [] ks e n h = e ∙ ap (pad 16 0) (sym (append-nil ks))
+kinds-after d (TIED v ∷ cs) ks e n h = kinds-after (addC d (TIED v)) cs ks e n (subst (λ s. Follows s cs) (sym (told-add d (TIED v))) (h .1))
+kinds-after d (STATE k ∷ cs) ks e n h =
+    kinds-after (addC d (STATE k)) cs (ks ++ (kindByte k ∷ []))
+    (ap (λ l. set l (d .summary .states) (kindByte k)) e ∙ ap (λ j. set (pad 16 0 ks) j (kindByte k)) n ∙ set-pad 16 0 ks (kindByte k) (subst (λ j. j < 16) n (h .0)))
+    (let l = length-append ks (kindByte k ∷ []) in omega arith)
+    (subst (λ s. Follows s cs) (sym (told-add d (STATE k))) (h .1))
+    ∙ ap (pad 16 0) (append-snoc ks (kindByte k) (kindsIn (gatherAll cs .states)))
+kinds-after d (STEP t ∷ cs) ks e n h = kinds-after (addC d (STEP t)) cs ks e n (subst (λ s. Follows s cs) (sym (told-add d (STEP t))) (h .1))
+kinds-after d (CLAUSE (TEST f o x) ∷ cs) ks e n h = kinds-after (addC d (CLAUSE (TEST f o x))) cs ks e n (subst (λ s. Follows s cs) (sym (told-add d (CLAUSE (TEST f o x)))) (h .1))
+kinds-after d (CLAUSE (TESTV f o v) ∷ cs) ks e n h = kinds-after (addC d (CLAUSE (TESTV f o v))) cs ks e n (subst (λ s. Follows s cs) (sym (told-add d (CLAUSE (TESTV f o v)))) (h .1))
+kinds-after d (CLAUSE (BIND f v) ∷ cs) ks e n h = kinds-after (addC d (CLAUSE (BIND f v))) cs ks e n (subst (λ s. Follows s cs) (sym (told-add d (CLAUSE (BIND f v)))) (h .1))
+kinds-after d (GUARD x ∷ cs) ks e n h = kinds-after (addC d (GUARD x)) cs ks e n (subst (λ s. Follows s cs) (sym (told-add d (GUARD x))) (h .1))
 
-  -- a variable is tied if it was or is
-  ties-at : (d : Draft) (cs : List Command) (w : ℕ) → w < length (d .outline .ties) → getD (draftAfter limit free d cs .outline .ties) w false ≡ (getD (d .outline .ties) w false || isTied w (gatherAll cs .tied))
-  unfolding draftAfter gatherAll isTied
-  ties-at d [] w h = sym (or-false (getD (d .outline .ties) w false))
-  ties-at d (TIED v ∷ cs) w h =
-      ties-at (addC limit free d (TIED v)) cs w (subst (λ n. w < n) (sym (length-set (d .outline .ties) v true)) h)
-      ∙ ap (λ b. b || isTied w (gatherAll cs .tied)) (set-mark (d .outline .ties) v w h)
-      ∙ or-assoc-bool (getD (d .outline .ties) w false) (eqb v w) (isTied w (gatherAll cs .tied))
-  ties-at d (STATE k ∷ cs) w h = ties-at (addC limit free d (STATE k)) cs w h
-  ties-at d (STEP t ∷ cs) w h = ties-at (addC limit free d (STEP t)) cs w h
-  ties-at d (CLAUSE (TEST f o x) ∷ cs) w h = ties-at (addC limit free d (CLAUSE (TEST f o x))) cs w h
-  ties-at d (CLAUSE (TESTV f o v) ∷ cs) w h = ties-at (addC limit free d (CLAUSE (TESTV f o v))) cs w h
-  ties-at d (CLAUSE (BIND f v) ∷ cs) w h = ties-at (addC limit free d (CLAUSE (BIND f v))) cs w h
-  ties-at d (GUARD x ∷ cs) w h = ties-at (addC limit free d (GUARD x)) cs w h
-
-  -- the first absent state
-  absent-add : (d : Draft) (c : Command) (o : Option ℕ) → d .found .absent ≡ placeOf o → addC limit free d c .found .absent ≡ placeOf (orElse o (absentIn limit (d .at) c))
-  absent-add d (TIED v) o e = e ∙ ap placeOf (sym (or-none o))
-  absent-add d (STATE k) o e = e ∙ ap placeOf (sym (or-none o))
-  absent-add d (STEP t) o e = rw (e, ← (place-when (not (ltb t limit)) (d .at))) (first-or o (when (not (ltb t limit)) (d .at)))
-  absent-add d (CLAUSE (TEST f q x)) o e = e ∙ ap placeOf (sym (or-none o))
-  absent-add d (CLAUSE (TESTV f q v)) o e = e ∙ ap placeOf (sym (or-none o))
-  absent-add d (CLAUSE (BIND f v)) o e = e ∙ ap placeOf (sym (or-none o))
-  absent-add d (GUARD x) o e = rw e (first-or o (absentIn limit (d .at) (GUARD x)))
-
-  pub absent-after : (d : Draft) (cs : List Command) (o : Option ℕ) → d .found .absent ≡ placeOf o → draftAfter limit free d cs .found .absent ≡ placeOf (orElse o (firstAbsent limit (d .at) cs))
-  unfolding draftAfter firstAbsent
-  absent-after d [] o e = e ∙ ap placeOf (sym (or-none o))
-  absent-after d (c ∷ cs) o e = absent-after (addC limit free d c) cs (orElse o (absentIn limit (d .at) c)) (absent-add d c o e) ∙ ap placeOf (or-assoc o (absentIn limit (d .at) c) (firstAbsent limit (d .at + length (encodeCommand c)) cs))
+-- a variable is tied if it was or is
+ties-at : (d : Draft) (cs : List Command) (w : ℕ) → w < length (d .ties) → getD (draftAfter d cs .ties) w false ≡ (getD (d .ties) w false || isTied w (gatherAll cs .tied))
+unfolding draftAfter gatherAll isTied
+ties-at d [] w h = sym (or-false (getD (d .ties) w false))
+ties-at d (TIED v ∷ cs) w h =
+    ties-at (addC d (TIED v)) cs w (subst (λ n. w < n) (sym (length-set (d .ties) v true)) h)
+    ∙ ap (λ b. b || isTied w (gatherAll cs .tied)) (set-mark (d .ties) v w h)
+    ∙ or-assoc-bool (getD (d .ties) w false) (eqb v w) (isTied w (gatherAll cs .tied))
+ties-at d (STATE k ∷ cs) w h = ties-at (addC d (STATE k)) cs w h
+ties-at d (STEP t ∷ cs) w h = ties-at (addC d (STEP t)) cs w h
+ties-at d (CLAUSE (TEST f o x) ∷ cs) w h = ties-at (addC d (CLAUSE (TEST f o x))) cs w h
+ties-at d (CLAUSE (TESTV f o v) ∷ cs) w h = ties-at (addC d (CLAUSE (TESTV f o v))) cs w h
+ties-at d (CLAUSE (BIND f v) ∷ cs) w h = ties-at (addC d (CLAUSE (BIND f v))) cs w h
+ties-at d (GUARD x ∷ cs) w h = ties-at (addC d (GUARD x)) cs w h
 
 -- marks that are those of the tied variables make their mask
 mask-is : (m : List Bool) (ws : List ℕ) → ((w : ℕ) → w < 8 → getD m w false ≡ isTied w ws) → maskOf m ≡ maskFrom ws 0 8
@@ -125,8 +103,8 @@ unfolding maskOf maskFrom
 mask-is m ws h = rw (h 0 (omega arith), h 1 (omega arith), h 2 (omega arith), h 3 (omega arith), h 4 (omega arith), h 5 (omega arith), h 6 (omega arith), h 7 (omega arith), add-zero (cond (isTied 7 ws) 128 0))
 
 -- the mask is that of the TIEDs
-pub mask-after : (limit : ℕ) (free : List Bool) (cs : List Command) → maskOf (draftAfter limit free emptyDraft cs .outline .ties) ≡ maskFrom (gatherAll cs .tied) 0 8
+pub mask-after : (cs : List Command) → maskOf (draftAfter emptyDraft cs .ties) ≡ maskFrom (gatherAll cs .tied) 0 8
 unfolding emptyDraft
-mask-after limit free cs =
-    mask-is (draftAfter limit free emptyDraft cs .outline .ties) (gatherAll cs .tied)
-    (λ w h. ties-at limit free emptyDraft cs w h ∙ ap (λ b. b || isTied w (gatherAll cs .tied)) (getD-replicate 8 w false false h))
+mask-after cs =
+    mask-is (draftAfter emptyDraft cs .ties) (gatherAll cs .tied)
+    (λ w h. ties-at emptyDraft cs w h ∙ ap (λ b. b || isTied w (gatherAll cs .tied)) (getD-replicate 8 w false false h))

@@ -11,7 +11,6 @@ use lib.ListN.{length, getD, take, drop, length-drop}
 use Rattle.formula_reader.proofs.Next as NextType
 use Rattle.refusal.specs.declared.Refusal.{Refusal}
 use Rattle.formula_reader.specs.declared.Summary.{Summary as Counts}
-use Rattle.formula_reader.specs.declared.Edges.{Edges}
 use Rattle.formula_reader.specs.declared.Draft.{Draft}
 use Rattle.formula_reader.specs.declared.Scan.{Scan}
 use Rattle.formula_reader.specs.declared.Command.{Command as Kept}
@@ -21,8 +20,8 @@ use Rattle.formula_reader.specs.declared.Next.the-variants.{Taken, End, 
 use Rattle.formula.specs.Formula.{TEST, TESTV, BIND}
 use Rattle.formula.specs.Encode.{Command, TIED, STATE, STEP, CLAUSE, GUARD}
 use Rattle.formula.specs.Read.{Next, command, end, bad, next}
-use Rattle.formula_reader.specs.Take.{told, commandShape, nextShape}
-use Rattle.formula_reader.specs.Scan.{Counted, Ready, Within, advanceBy, edged, marksOf, added, emptyDraft, finishedWith, onward, nextFrom, scanFrom, scanFile, Scanned}
+use Rattle.formula_reader.specs.Take.{told, commandShape, NextEnd, goes-on, ends, breaks, nextEnd, nextShape}
+use Rattle.formula_reader.specs.Scan.{Counted, Ready, Within, advanceBy, kindsWith, tableWith, tiesWith, countWith, fromWith, toWith, boundWith, ownWith, placesWith, added, emptyDraft, arrived, finishedWith, onward, nextFrom, scanFrom, scanFile, Scanned}
 use Rattle.formula_reader.proofs.CodeGuard.{part-rest}
 use Rattle.formula_reader.proofs.CodeNext.{Fits, CommandFacts, NextFacts, next-facts}
 
@@ -34,7 +33,7 @@ counted-on s (Step t) h r = record { tied = h .tied; states = h .states; steps =
 counted-on s Test h r = record { tied = h .tied; states = h .states; steps = h .steps; clauses = omega (arith, r .1) }
 counted-on s (Testv v) h r = record { tied = h .tied; states = h .states; steps = h .steps; clauses = omega (arith, r .1) }
 counted-on s (Bind v) h r = record { tied = h .tied; states = h .states; steps = h .steps; clauses = omega (arith, r .1) }
-counted-on s (Guard p q) h r = record { tied = h .tied; states = h .states; steps = h .steps; clauses = h .clauses }
+counted-on s Guard h r = record { tied = h .tied; states = h .states; steps = h .steps; clauses = h .clauses }
 
 -- a new state leaves room for the steps of those before it
 room-on : (n c k : ℕ) → c ≤ (n - 1) * 8 + k → k ≤ 8 → (0 < k → 0 < n) → c ≤ (n + 1 - 1) * 8 + 0
@@ -42,14 +41,14 @@ room-on zero c zero h l s = omega (arith, h)
 room-on zero c (suc k) h l s = absurd (omega (arith, s (omega arith)))
 room-on (suc n) c k h l s = omega (arith, h, l)
 
-within-on : (s : Counts) (g : Edges) (c : Kept) → Counted s → Ready s c → Within s g → Within (advanceBy s c) (edged g s c)
+within-on : (s : Counts) (g : ℕ) (c : Kept) → Counted s → Ready s c → Within s g → Within (advanceBy s c) (countWith g c)
 within-on s g (Tied v) k r h = record { most = h .most; least = h .least; some = h .some }
-within-on s g (State n) k r h = record { most = room-on (s .states) (g .count) (s .steps) (h .most) (k .steps) (h .some); least = omega arith; some = λ e. omega arith }
+within-on s g (State n) k r h = record { most = room-on (s .states) g (s .steps) (h .most) (k .steps) (h .some); least = omega arith; some = λ e. omega arith }
 within-on s g (Step t) k r h = record { most = omega (arith, h .most); least = omega (arith, h .least); some = λ e. r .0 }
 within-on s g Test k r h = record { most = h .most; least = h .least; some = h .some }
 within-on s g (Testv v) k r h = record { most = h .most; least = h .least; some = h .some }
 within-on s g (Bind v) k r h = record { most = h .most; least = h .least; some = h .some }
-within-on s g (Guard p q) k r h = record { most = h .most; least = h .least; some = h .some }
+within-on s g Guard k r h = record { most = h .most; least = h .least; some = h .some }
 
 -- what is known of a command that was taken, of what is kept of it
 pub record KeptFacts (s : Counts) (c : Kept) (u : ℕ) (bs : List ℕ) : Type 0 where
@@ -57,100 +56,125 @@ pub record KeptFacts (s : Counts) (c : Kept) (u : ℕ) (bs : List ℕ) : Type 0 
   pub some : 0 < u
   pub inside : u ≤ length bs
 
-abbrev Known : Counts → List ℕ → Read → Type 0
-Known s bs (Taken c u) = KeptFacts s c u bs
-Known s bs End = 0 < length bs
-Known s bs (Bad r) = Unit {0}
+-- of what stands next, and of the places after it
+abbrev Known : Counts → List ℕ → NextEnd → Type 0
+Known s bs (goes-on c u places) = KeptFacts s c u bs
+Known s bs (ends places) = 0 < length bs
+Known s bs (breaks r) = Unit {0}
 
-module _ (marks : List Bool) (limit at : ℕ) where
-  ready-shape : (s : Counts) (c : Command) → Fits (told s) c → Ready s (commandShape marks limit at c)
-  ready-shape s (TIED v) h = h
-  ready-shape s (STATE k) h = h
-  ready-shape s (STEP t) h = h
-  ready-shape s (CLAUSE (TEST f o x)) h = h
-  ready-shape s (CLAUSE (TESTV f o v)) h = h
-  ready-shape s (CLAUSE (BIND f v)) h = h
-  ready-shape s (GUARD e) h = h .0
+ready-shape : (s : Counts) (c : Command) → Fits (told s) c → Ready s (commandShape c)
+ready-shape s (TIED v) h = h
+ready-shape s (STATE k) h = h
+ready-shape s (STEP t) h = h
+ready-shape s (CLAUSE (TEST f o x)) h = h
+ready-shape s (CLAUSE (TESTV f o v)) h = h
+ready-shape s (CLAUSE (BIND f v)) h = h
+ready-shape s (GUARD e) h = h .0
 
-  known-shape : (s : Counts) (bs : List ℕ) (x : Next) → NextFacts (told s) bs x → Known s bs (nextShape marks limit at x)
-  known-shape s bs (command c u) h = record { ready = ready-shape s c (h .fits); some = h .some; inside = h .inside }
-  known-shape s bs end h = h
-  known-shape s bs (bad r) h = tt
+known-shape : (own : List Bool) (st at : ℕ) (places : List ℕ) (s : Counts) (bs : List ℕ) (x : Next) → NextFacts (told s) bs x → Known s bs (nextShape st own at places x)
+known-shape own st at places s bs (command c u) h = record { ready = ready-shape s c (h .fits); some = h .some; inside = h .inside }
+known-shape own st at places s bs end h = h
+known-shape own st at places s bs (bad r) h = tt
 
-finished-draft : (d : Draft) (x : Read) → finishedWith d x .draft ≡ d
-finished-draft d (Taken c u) = refl
-finished-draft d End = refl
-finished-draft d (Bad r) = refl
+-- the number of steps is that of 16 states with 8 steps at most
+pub most-steps : (s : Counts) (c : ℕ) → Counted s → Within s c → c ≤ 128
+most-steps s c k h = most (s .states) c (s .steps) (h .most) (k .states) (k .steps)
+  where
+    most : (n c k : ℕ) → c ≤ (n - 1) * 8 + k → n ≤ 16 → k ≤ 8 → c ≤ 128
+    most zero c k h m l = omega (arith, h)
+    most (suc n) c k h m l = omega (arith, h)
 
-module _ (fields limit : ℕ) (free : List Bool) (l : List ℕ) where
+-- the draft with other places
+abbrev pub placed : Draft → List ℕ → Draft
+placed d t = record { at = d .at; summary = d .summary; kinds = d .kinds; table = d .table; ties = d .ties; count = d .count; from = d .from; to = d .to; bound = d .bound; own = d .own; places = t }
+
+-- what the reader stores, table by table, is what is gathered
+pub added-is : (d : Draft) (c : Kept) (u : ℕ) (t : List ℕ) (s : Counts) (kinds table : List ℕ) (ties : List Bool) (count : ℕ) (from to : List ℕ) (bound own : List Bool) (places : List ℕ)
+    → s ≡ advanceBy (d .summary) c → kinds ≡ kindsWith (d .kinds) (d .summary .states) c → table ≡ tableWith (d .table) (d .summary) (d .at) c → ties ≡ tiesWith (d .ties) c → count ≡ countWith (d .count) c
+    → from ≡ fromWith (d .from) (d .count) (d .summary .states) c → to ≡ toWith (d .to) (d .count) c → bound ≡ boundWith (d .bound) (d .count) c → own ≡ ownWith (d .own) c → places ≡ placesWith t (d .summary .states) (d .at) c
+    → added d c u t ≡ record { at = d .at + u; summary = s; kinds = kinds; table = table; ties = ties; count = count; from = from; to = to; bound = bound; own = own; places = places }
+added-is d c u t s kinds table ties count from to bound own places e₀ e₁ e₂ e₃ e₄ e₅ e₆ e₇ e₈ e₉ = rw (e₀, e₁, e₂, e₃, e₄, e₅, e₆, e₇, e₈, e₉)
+
+-- END leaves the places as they are
+abbrev Ends : List ℕ → NextEnd → Type 0
+Ends places (goes-on c u t) = Unit {0}
+Ends places (ends t) = t ≡ places
+Ends places (breaks r) = Unit {0}
+
+ends-same : (st : ℕ) (own : List Bool) (at : ℕ) (places : List ℕ) (x : Next) → Ends places (nextShape st own at places x)
+ends-same st own at places (command c u) = tt
+ends-same st own at places end = refl
+ends-same st own at places (bad r) = tt
+
+module _ (fields : ℕ) (l : List ℕ) where
   -- the commands before the draft's place were gathered
   pub record SoFar (d : Draft) : Type 0 where
     pub fuel : ℕ
     pub enough : length l < fuel + d .at
-    pub is : scanFile fields limit free l ≡ scanFrom fuel fields limit free l d
+    pub is : scanFile fields l ≡ scanFrom fuel fields l d
     pub inside : d .at ≤ length l
     pub counted : Counted (d .summary)
-    pub within : Within (d .summary) (d .edges)
+    pub within : Within (d .summary) (d .count)
 
   pub begin : SoFar emptyDraft
   unfolding scanFile emptyDraft
   begin = record { fuel = suc (length l); enough = omega arith; is = refl; inside = omega arith; counted = record { tied = omega arith; states = omega arith; steps = omega arith; clauses = omega arith }; within = record { most = omega arith; least = omega arith; some = λ e. absurd (omega arith) } }
 
-  known-next : (d : Draft) → Known (d .summary) (drop (d .at) l) (nextFrom fields limit free l d)
+  known-next : (d : Draft) → Known (d .summary) (drop (d .at) l) (nextFrom fields l d)
   unfolding nextFrom
-  known-next d = known-shape (marksOf free (d .summary .states) (d .edges .own)) limit (d .at) (d .summary) (drop (d .at) l) (next fields (told (d .summary)) (d .at) (drop (d .at) l)) (next-facts fields (told (d .summary)) (d .at) (drop (d .at) l))
+  known-next d = known-shape (d .own) (d .summary .states - 1) (d .at) (d .places) (d .summary) (drop (d .at) l) (next fields (told (d .summary)) (d .at) (drop (d .at) l)) (next-facts fields (told (d .summary)) (d .at) (drop (d .at) l))
 
-  scan-step : (fuel : ℕ) (d : Draft) → 0 < fuel → scanFrom fuel fields limit free l d ≡ onward (scanFrom (fuel - 1) fields limit free l) limit free d (nextFrom fields limit free l d)
+  scan-step : (fuel : ℕ) (d : Draft) → 0 < fuel → scanFrom fuel fields l d ≡ onward (scanFrom (fuel - 1) fields l) d (nextFrom fields l d)
   unfolding scanFrom
   scan-step zero d h = absurd (omega arith)
   scan-step (suc n) d h = let e : suc n - 1 ≡ n = omega arith in rw e
 
-  step-on : (d : Draft) (h : SoFar d) → scanFile fields limit free l ≡ onward (scanFrom (h .fuel - 1) fields limit free l) limit free d (nextFrom fields limit free l d)
-  step-on d h = h .is ∙ scan-step (h .fuel) d (omega (arith, h .enough, h .inside))
+  step-on : (d : Draft) (h : SoFar d) (x : NextEnd) → x ≡ nextFrom fields l d → scanFile fields l ≡ onward (scanFrom (h .fuel - 1) fields l) d x
+  step-on d h x e = h .is ∙ scan-step (h .fuel) d (omega (arith, h .enough, h .inside)) ∙ ap (onward (scanFrom (h .fuel - 1) fields l) d) (sym e)
 
   -- what stands next, as the code finds it
-  pub next-from : (d : Draft) (marks : List Bool) (r : Read) → marks ≡ marksOf free (d .summary .states) (d .edges .own) → r ≡ nextShape marks limit (d .at) (next fields (told (d .summary)) (d .at) (take (length l - d .at) (drop (d .at) l))) → r ≡ nextFrom fields limit free l d
+  pub next-from : (d : Draft) (x : NextEnd) → x ≡ nextShape (d .summary .states - 1) (d .own) (d .at) (d .places) (next fields (told (d .summary)) (d .at) (take (length l - d .at) (drop (d .at) l))) → x ≡ nextFrom fields l d
   unfolding nextFrom
-  next-from d marks r e f = rw (part-rest l (d .at), e) at f
-
-  -- no command was taken: the walk ends
-  stopped : (d : Draft) → SoFar d → nextFrom fields limit free l d ≡ End → finishedWith d End ≡ scanFile fields limit free l
-  stopped d h e = sym (step-on d h ∙ ap (onward (scanFrom (h .fuel - 1) fields limit free l) limit free d) e)
-
-  refused-at : (d : Draft) (r : Refusal) → SoFar d → nextFrom fields limit free l d ≡ Bad r → finishedWith d (Bad r) ≡ scanFile fields limit free l
-  refused-at d r h e = sym (step-on d h ∙ ap (onward (scanFrom (h .fuel - 1) fields limit free l) limit free d) e)
+  next-from d x f = rw (part-rest l (d .at)) at f
 
   -- a command was taken: its facts, and the walk goes on behind it
-  pub taken-facts : (d : Draft) (c : Kept) (u : ℕ) → nextFrom fields limit free l d ≡ Taken c u → KeptFacts (d .summary) c u (drop (d .at) l)
-  taken-facts d c u e = subst (Known (d .summary) (drop (d .at) l)) e (known-next d)
+  pub taken-facts : (d : Draft) (c : Kept) (u : ℕ) (t : List ℕ) → goes-on c u t ≡ nextFrom fields l d → KeptFacts (d .summary) c u (drop (d .at) l)
+  taken-facts d c u t e = subst (Known (d .summary) (drop (d .at) l)) (sym e) (known-next d)
 
-  pub taken-on : (d : Draft) (c : Kept) (u : ℕ) → SoFar d → nextFrom fields limit free l d ≡ Taken c u → SoFar (added limit free d c u)
-  taken-on d c u h e =
-      let k = taken-facts d c u e in
+  pub taken-on : (d : Draft) (c : Kept) (u : ℕ) (t : List ℕ) → SoFar d → goes-on c u t ≡ nextFrom fields l d → SoFar (added d c u t)
+  taken-on d c u t h e =
+      let k = taken-facts d c u t e in
       record {
         fuel = h .fuel - 1;
         enough = omega (arith, h .enough, k .some, h .inside);
-        is = step-on d h ∙ ap (onward (scanFrom (h .fuel - 1) fields limit free l) limit free d) e;
+        is = step-on d h (goes-on c u t) e;
         inside = omega (arith, k .inside, h .inside, length-drop (d .at) l);
         counted = counted-on (d .summary) c (h .counted) (k .ready);
-        within = within-on (d .summary) (d .edges) c (h .counted) (k .ready) (h .within);
+        within = within-on (d .summary) (d .count) c (h .counted) (k .ready) (h .within);
       }
 
   -- END or a refusal by its case, as a `let .. else` finds it
-  ends : (d : Draft) (x : Read) → SoFar d → x ≡ nextFrom fields limit free l d → OneOf (1 ∷ 2 ∷ []) (tagOf NextType.the-type x) → finishedWith d x ≡ scanFile fields limit free l
-  ends d (Taken c u) h e k = absurd (⊎-elim (λ z. omega (arith, z)) (λ z. omega (arith, z)) k)
-  ends d End h e k = stopped d h (sym e)
-  ends d (Bad r) h e k = refused-at d r h (sym e)
+  ends-so : (d : Draft) (x : Read) (t : List ℕ) → SoFar d → nextEnd x t ≡ nextFrom fields l d → OneOf (1 ∷ 2 ∷ []) (tagOf NextType.the-type x) → finishedWith (placed d t) x ≡ scanFile fields l
+  unfolding nextFrom
+  ends-so d (Taken c u) t h e k = absurd (⊎-elim (λ z. omega (arith, z)) (λ z. omega (arith, z)) k)
+  ends-so d End t h e k =
+      let q : t ≡ d .places = subst (Ends (d .places)) (sym e) (ends-same (d .summary .states - 1) (d .own) (d .at) (d .places) (next fields (told (d .summary)) (d .at) (drop (d .at) l))) in
+      ap (λ p. arrived (placed d p)) q ∙ sym (step-on d h (ends t) e)
+  ends-so d (Bad r) t h e k = sym (step-on d h (breaks r) e)
 
-  most-steps : (n c k : ℕ) → c ≤ (n - 1) * 8 + k → n ≤ 16 → k ≤ 8 → c ≤ 128
-  most-steps zero c k h m l = omega (arith, h)
-  most-steps (suc n) c k h m l = omega (arith, h)
+  -- the answer's counts are those of the draft, or none
+  finished-in : (P : Draft → Type 0) (d : Draft) (x : Read) → P d → P emptyDraft → P (finishedWith d x .draft)
+  finished-in P d (Taken c u) h k = k
+  finished-in P d End h k = h
+  finished-in P d (Bad r) h k = k
 
-  pub scanned : (d : Draft) (x : Read) (r : Scan) → SoFar d → x ≡ nextFrom fields limit free l d → OneOf (1 ∷ 2 ∷ []) (tagOf NextType.the-type x) → r ≡ finishedWith d x → Scanned fields limit free l r
-  scanned d x r h e k q =
-      let p : r .draft ≡ d = ap (λ (y : Scan). y .draft) q ∙ finished-draft d x in
+  pub scanned : (d : Draft) (x : Read) (t : List ℕ) (r : Scan) → SoFar d → nextEnd x t ≡ nextFrom fields l d → OneOf (1 ∷ 2 ∷ []) (tagOf NextType.the-type x) → r ≡ finishedWith (placed d t) x → Scanned fields l r
+  unfolding emptyDraft
+  scanned d x t r h e k q =
+      let of : (P : Draft → Type 0) → P (placed d t) → P emptyDraft → P (r .draft) = λ P a b. subst (λ (y : Scan). P (y .draft)) (sym q) (finished-in P (placed d t) x a b) in
       record {
-        is = q ∙ ends d x h e k;
-        inside = subst (λ (y : Draft). y .at ≤ length l) (sym p) (h .inside);
-        steps = subst (λ (y : Draft). y .edges .count ≤ 128) (sym p) (most-steps (d .summary .states) (d .edges .count) (d .summary .steps) (h .within .most) (h .counted .states) (h .counted .steps));
+        is = q ∙ ends-so d x t h e k;
+        inside = of (λ y. y .at ≤ length l) (h .inside) (omega arith);
+        states = of (λ y. y .summary .states ≤ 16) (h .counted .states) (omega arith);
+        steps = of (λ y. y .count ≤ 128) (most-steps (d .summary) (d .count) (h .counted) (h .within)) (omega arith);
       }

@@ -2,10 +2,13 @@
 pub mod CodeExpr
 pub mod CodeGuard
 pub mod CodeNext
+pub mod CodeKeep
 pub mod CodeScan
 pub mod CodeReach
+pub mod CodeLowest
 pub mod CodeTrace
 pub mod CodeOutline
-pub mod CodeBound
 pub mod CodeEdges
+pub mod CodePlaces
+pub mod CodeFirst
 pub mod CodeAnswer

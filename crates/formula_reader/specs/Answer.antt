@@ -9,7 +9,6 @@ use Rattle.refusal.specs.declared.File.the-variants.{Formula as InFormula}
 use Rattle.refusal.specs.declared.Refusal.{Refusal}
 use Rattle.refusal.specs.declared.Refusal.the-variants.{CutShort, Value, DeadStart, Unbound as UnboundAt}
 use Rattle.formula_reader.specs.declared.Draft.{Draft}
-use Rattle.formula_reader.specs.declared.Found.{Found}
 use Rattle.formula_reader.specs.declared.Verdict.{Verdict}
 use Rattle.formula_reader.specs.declared.Verdict.the-variants.{Accepted, Refused}
 use Rattle.formula_reader.specs.declared.FormulaReading.{FormulaReading}
@@ -17,6 +16,7 @@ use Rattle.formula.specs.Formula.{State, Formula}
 use Rattle.formula.specs.Encode.{kindByte}
 use Rattle.formula.specs.Lookup.{stepTable, tiedMask}
 use Rattle.formula.specs.Read.{Reading, accepted, refused}
+use Rattle.formula_reader.specs.Places.{nowhere}
 
 -- the marked ones of 8 variables as a mask, bit v for variable v
 unfoldable pub maskOf : List Bool → ℕ
@@ -34,14 +34,14 @@ answerOf (refused r) = record { verdict = Refused r; states = 0; kinds = replica
 
 -- the answer of an accepted formula, from what was gathered of it
 abbrev pub acceptedWith : Draft → FormulaReading
-acceptedWith d = record { verdict = Accepted; states = d .summary .states; kinds = d .outline .kinds; table = d .outline .table; tied = maskOf (d .outline .ties) }
+acceptedWith d = record { verdict = Accepted; states = d .summary .states; kinds = d .kinds; table = d .table; tied = maskOf (d .ties) }
 
--- after END: an absent state, a dead start, an unbound variable, in this order
-unfoldable pub judgedWith : Draft → Found → FormulaReading
-judgedWith d f =
-    cond (f .absent .found) (answerOf (refused (Value InFormula (f .absent .at))))
-    (cond (ltb 1 (getD (d .outline .kinds) 0 0)) (answerOf (refused DeadStart))
-    (cond (f .unbound .found) (answerOf (refused (UnboundAt (f .unbound .at))))
+-- after END: an absent state, a dead start, an unbound variable, in this order; the first place of each, or nowhere
+unfoldable pub judgedWith : Draft → ℕ → ℕ → FormulaReading
+judgedWith d absent unbound =
+    cond (ltb absent nowhere) (answerOf (refused (Value InFormula absent)))
+    (cond (ltb 1 (getD (d .kinds) 0 0)) (answerOf (refused DeadStart))
+    (cond (ltb unbound nowhere) (answerOf (refused (UnboundAt unbound)))
     (acceptedWith d)))
 
 -- the refusal in a verdict

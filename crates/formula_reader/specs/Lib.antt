@@ -1,4 +1,5 @@
 -- What the reader keeps and gives while it walks a formula file.
+pub mod Places
 pub mod Prefix
 pub mod Take
 pub mod Scan

@@ -1,8 +1,7 @@
 -- An expression as its reader sees it, bytes alone: the front of it that was read, and what is missing.
 use Prim.Native.Nat.{ℕ, zero, suc, _+_, _-_}
-use mathlib.Core.Bool.{Bool, true, false, cond, not}
+use mathlib.Core.Bool.{Bool, true, false, cond}
 use mathlib.Core.List.{List, [], _∷_}
-use mathlib.Core.Option.{Option, none, some}
 use lib.Dec.{ltb, eqb}
 use lib.ListN.{length, getD, drop}
 use Rattle.refusal.specs.declared.File.the-variants.{Formula as InFormula}
@@ -10,11 +9,11 @@ use Rattle.refusal.specs.declared.Refusal.{Refusal}
 use Rattle.refusal.specs.declared.Refusal.the-variants.{CutShort, Foreign, Value, Surplus}
 use Rattle.formula_reader.specs.declared.Takes.{Takes}
 use Rattle.formula_reader.specs.declared.Takes.the-variants.{Value as TakesValue, Variable as TakesVariable, State as TakesState, Operands, Foreign as TakesNothing}
-use Rattle.formula_reader.specs.declared.Place.{Place}
 use Rattle.formula_reader.specs.declared.Prefix.{Prefix}
 use Rattle.formula_reader.specs.declared.ExprRead.{ExprRead}
 use Rattle.formula_reader.specs.declared.ExprRead.the-variants.{Taken, Bad}
-use Rattle.formula.specs.Read.{ExprOpcode, const-op, var-op, count-op, unary, binary, ternary, foreign-op, ExprNext, expression, failed, firstLeaf}
+use Rattle.formula.specs.Read.{ExprOpcode, const-op, var-op, count-op, unary, binary, ternary, foreign-op, exprOpcode, ExprNext, expression, failed}
+use Rattle.formula_reader.specs.Places.{noted, stateKey, varNoted, leavesNoted}
 
 -- what an expression command takes
 abbrev pub takes : ExprOpcode → Takes
@@ -34,54 +33,53 @@ over TakesState at = Bad (Surplus InFormula at)
 over (Operands n) at = Bad (Surplus InFormula at)
 over TakesNothing at = Bad (Foreign InFormula at)
 
--- the place, if the command there is bad
-unfoldable pub place : Bool → ℕ → Place
-place b at = cond b (record { found = true; at = at }) (record { found = false; at = 0 })
+-- an expression's front with the places after it, or the refusal
+pub data ExprEnd : Type 0 where
+  whole : Prefix → List ℕ → ExprEnd
+  broken : Refusal → ExprEnd
 
--- the first of two places
-unfoldable pub first : Place → Place → Place
-first p q = cond (p .found) p q
+-- what a reading and the places after it amount to: after a refusal no place counts
+abbrev pub endOf : ExprRead → List ℕ → ExprEnd
+endOf (Taken p) places = whole p places
+endOf (Bad r) places = broken r
 
 -- an expression's front and its next operand
 unfoldable pub joined : Prefix → Prefix → Prefix
-joined p q = record { used = p .used + q .used; left = q .left; operands = p .operands - 1; count = first (p .count) (q .count); var = first (p .var) (q .var) }
+joined p q = record { used = p .used + q .used; left = q .left; operands = p .operands - 1 }
 
--- a command of `used` bytes with its operands to come, its place bad for one reason or the other
-unfoldable pub command : ℕ → ℕ → ℕ → Place → Place → ExprRead
-command used left n p q = Taken (record { used = used; left = left; operands = n; count = p; var = q })
+-- a command of `used` bytes with n operands to come
+abbrev pub front : ℕ → ℕ → ℕ → Prefix
+front used left n = record { used = used; left = left; operands = n }
+
+abbrev pub command : ℕ → ℕ → ℕ → ExprRead
+command used left n = Taken (front used left n)
 
 -- a CONST, VAR, COUNT at `at`, where bs begins
 unfoldable pub constHead : ℕ → ℕ → List ℕ → ExprRead
-constHead left at bs = cond (ltb (length bs) 5) (Bad (CutShort InFormula at)) (command 5 left 0 (place false 0) (place false 0))
+constHead left at bs = cond (ltb (length bs) 5) (Bad (CutShort InFormula at)) (command 5 left 0)
 
-unfoldable pub varHead : List Bool → ℕ → ℕ → List ℕ → ExprRead
-varHead bad left at bs = cond (ltb (length bs) 2) (Bad (CutShort InFormula at)) (cond (ltb (getD bs 1 0) 8) (command 2 left 0 (place false 0) (place (getD bad (getD bs 1 0) false) at)) (Bad (Value InFormula at)))
+unfoldable pub varHead : ℕ → List Bool → ℕ → ℕ → List ℕ → List ℕ → ExprEnd
+varHead s own left at bs places = cond (ltb (length bs) 2) (broken (CutShort InFormula at)) (cond (ltb (getD bs 1 0) 8) (whole (front 2 left 0) (varNoted s own (getD bs 1 0) at places)) (broken (Value InFormula at)))
 
-unfoldable pub countHead : ℕ → ℕ → ℕ → List ℕ → ExprRead
-countHead limit left at bs = cond (ltb (length bs) 2) (Bad (CutShort InFormula at)) (command 2 left 0 (place (not (ltb (getD bs 1 0) limit)) at) (place false 0))
+unfoldable pub countHead : ℕ → ℕ → List ℕ → List ℕ → ExprEnd
+countHead left at bs places = cond (ltb (length bs) 2) (broken (CutShort InFormula at)) (whole (front 2 left 0) (noted places (stateKey (getD bs 1 0)) at))
 
--- an expression command at `at`, where bs begins; bad are the variables marked and the states from `limit` on
-abbrev pub headOf : List Bool → ℕ → ℕ → ℕ → List ℕ → Takes → ExprRead
-headOf bad limit left at bs TakesValue = constHead left at bs
-headOf bad limit left at bs TakesVariable = varHead bad left at bs
-headOf bad limit left at bs TakesState = countHead limit left at bs
-headOf bad limit left at bs (Operands n) = command 1 left n (place false 0) (place false 0)
-headOf bad limit left at bs TakesNothing = Bad (Foreign InFormula at)
+-- an expression command at `at`, where bs begins, in a step of state s that binds the variables marked
+abbrev pub headOf : ℕ → List Bool → ℕ → ℕ → List ℕ → List ℕ → Takes → ExprEnd
+headOf s own left at bs places TakesValue = endOf (constHead left at bs) places
+headOf s own left at bs places TakesVariable = varHead s own left at bs places
+headOf s own left at bs places TakesState = countHead left at bs places
+headOf s own left at bs places (Operands n) = whole (front 1 left n) places
+headOf s own left at bs places TakesNothing = broken (Foreign InFormula at)
 
--- that command where at most `depth` more levels and `left` more commands are allowed; t is what its byte takes
-unfoldable pub roomed : ℕ → ℕ → ExprRead → ExprRead → ExprRead
+-- that command where at most `depth` more levels and `left` more commands are allowed
+unfoldable pub roomed : ℕ → ℕ → ExprEnd → ExprEnd → ExprEnd
 roomed depth left full go-on = cond (eqb depth 0) full (cond (eqb left 0) full go-on)
 
-unfoldable pub exprHead : List Bool → ℕ → ℕ → ℕ → ℕ → List ℕ → ExprRead
-exprHead bad limit depth left at bs = cond (eqb (length bs) 0) (Bad (CutShort InFormula at)) (roomed depth left (over (takes (Rattle.formula.specs.Read.exprOpcode (getD bs 0 0))) at) (headOf bad limit (left - 1) at bs (takes (Rattle.formula.specs.Read.exprOpcode (getD bs 0 0)))))
-
--- a place or none
-abbrev pub placeOf : Option ℕ → Place
-placeOf none = record { found = false; at = 0 }
-placeOf (some p) = record { found = true; at = p }
+unfoldable pub exprHead : ℕ → List Bool → ℕ → ℕ → ℕ → List ℕ → List ℕ → ExprEnd
+exprHead s own depth left at bs places = cond (eqb (length bs) 0) (broken (CutShort InFormula at)) (roomed depth left (endOf (over (takes (exprOpcode (getD bs 0 0))) at) places) (headOf s own (left - 1) at bs places (takes (exprOpcode (getD bs 0 0)))))
 
 -- what the reader keeps of an expression read at `at`
-abbrev pub shape : List Bool → ℕ → ℕ → ExprNext → ExprRead
-shape bad limit at (expression e used left) =
-    Taken (record { used = used; left = left; operands = 0; count = placeOf (firstLeaf (λ v. false) (λ s. not (ltb s limit)) at e); var = placeOf (firstLeaf (λ v. getD bad v false) (λ s. false) at e) })
-shape bad limit at (failed r) = Bad r
+abbrev pub shape : ℕ → List Bool → ℕ → List ℕ → ExprNext → ExprEnd
+shape s own at places (expression e used left) = whole (front used left 0) (leavesNoted s own at e places)
+shape s own at places (failed r) = broken r

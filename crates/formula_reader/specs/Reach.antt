@@ -4,7 +4,16 @@ use mathlib.Core.Path.{_≡_}
 use mathlib.Core.Bool.{Bool, true, false, cond, not, _&&_}
 use mathlib.Core.List.{List, [], _∷_}
 use lib.ListN.{getD, set, replicate}
-use Rattle.formula_reader.specs.declared.Edges.{Edges}
+
+-- the steps as the reader keeps them: their number, the states that they stand in, their targets, the variables that they bind (variable v of step i at i * 8 + v)
+pub record Edges : Type 0 where
+  pub count : ℕ
+  pub from : List ℕ
+  pub to : List ℕ
+  pub bound : List Bool
+
+abbrev pub edges : ℕ → List ℕ → List ℕ → List Bool → Edges
+edges count from to bound = record { count = count; from = from; to = to; bound = bound }
 
 -- a step from a marked state that does not bind the variable marks its target
 unfoldable pub markBy : List Bool → ℕ → ℕ → Bool → List Bool

@@ -1,28 +1,24 @@
--- What a reader gathers while it walks the commands of a file: the summary, the outline, the steps, and the first bad places.
+-- What a reader gathers while it walks the commands of a file: the summary, the outline, the steps, and where variables and states are first named.
 use Prim.Native.Nat.{ℕ, zero, suc, _+_, _-_, _*_, _<_, _≤_}
 use mathlib.Core.Path.{_≡_}
-use mathlib.Core.Bool.{Bool, true, false, not, _&&_}
+use mathlib.Core.Bool.{Bool, true, false}
 use mathlib.Core.List.{List, [], _∷_}
 use lib.Dec.{ltb}
-use lib.ListN.{length, getD, drop, set, replicate}
+use lib.ListN.{length, drop, set, replicate}
 use Rattle.refusal.specs.declared.File.the-variants.{Formula as InFormula}
+use Rattle.refusal.specs.declared.Refusal.{Refusal}
 use Rattle.refusal.specs.declared.Refusal.the-variants.{CutShort}
-use Rattle.formula_reader.specs.declared.Place.{Place}
 use Rattle.formula_reader.specs.declared.Summary.{Summary as Counts}
 use Rattle.formula_reader.specs.declared.Command.{Command as Kept}
 use Rattle.formula_reader.specs.declared.Command.the-variants.{Tied, State, Step, Test, Testv, Bind, Guard}
 use Rattle.formula_reader.specs.declared.Next.{Next as Read}
 use Rattle.formula_reader.specs.declared.Next.the-variants.{Taken, End, Bad}
-use Rattle.formula_reader.specs.declared.Verdict.{Verdict}
 use Rattle.formula_reader.specs.declared.Verdict.the-variants.{Accepted, Refused}
-use Rattle.formula_reader.specs.declared.Outline.{Outline}
-use Rattle.formula_reader.specs.declared.Edges.{Edges}
-use Rattle.formula_reader.specs.declared.Found.{Found}
 use Rattle.formula_reader.specs.declared.Draft.{Draft}
 use Rattle.formula_reader.specs.declared.Scan.{Scan}
 use Rattle.formula.specs.Read.{next}
-use Rattle.formula_reader.specs.Prefix.{place, first}
-use Rattle.formula_reader.specs.Take.{told, nextShape}
+use Rattle.formula_reader.specs.Places.{nowhere, noted, stateKey}
+use Rattle.formula_reader.specs.Take.{told, NextEnd, goes-on, ends, breaks, nextShape}
 
 -- the stated counts are kept
 pub record Counted (s : Counts) : Type 0 where
@@ -39,12 +35,12 @@ Ready s (Step t) = (0 < s .states) × (s .steps < 8)
 Ready s Test = (0 < s .steps) × (s .clauses < 8)
 Ready s (Testv v) = (0 < s .steps) × (s .clauses < 8) × (v < 8)
 Ready s (Bind v) = (0 < s .steps) × (s .clauses < 8) × (v < 8)
-Ready s (Guard p q) = 0 < s .steps
+Ready s Guard = 0 < s .steps
 
 -- the steps counted are those of the states before and of this one
-pub record Within (s : Counts) (g : Edges) : Type 0 where
-  pub most : g .count ≤ (s .states - 1) * 8 + s .steps
-  pub least : s .steps ≤ g .count
+pub record Within (s : Counts) (count : ℕ) : Type 0 where
+  pub most : count ≤ (s .states - 1) * 8 + s .steps
+  pub least : s .steps ≤ count
   pub some : 0 < s .steps → 0 < s .states
 
 -- the summary after one more test or bind
@@ -59,49 +55,114 @@ advanceBy s (Step t) = record { tied = s .tied; states = s .states; last = s .la
 advanceBy s Test = clauseMore s
 advanceBy s (Testv v) = clauseMore s
 advanceBy s (Bind v) = clauseMore s
-advanceBy s (Guard p q) = record { tied = s .tied; states = s .states; last = s .last; steps = s .steps; clauses = s .clauses; guarded = true }
+advanceBy s Guard = record { tied = s .tied; states = s .states; last = s .last; steps = s .steps; clauses = s .clauses; guarded = true }
 
--- the outline after one more command, at `at`
-abbrev pub outlined : Outline → Counts → ℕ → Kept → Outline
-outlined o s at (Tied v) = record { kinds = o .kinds; table = o .table; ties = set (o .ties) v true }
-outlined o s at (State k) = record { kinds = set (o .kinds) (s .states) k; table = o .table; ties = o .ties }
-outlined o s at (Step t) = record { kinds = o .kinds; table = set (o .table) ((s .states - 1) * 8 + s .steps) at; ties = o .ties }
-outlined o s at Test = o
-outlined o s at (Testv v) = o
-outlined o s at (Bind v) = o
-outlined o s at (Guard p q) = o
+-- after one more command: the kinds of the states
+abbrev pub kindsWith : List ℕ → ℕ → Kept → List ℕ
+kindsWith kinds states (Tied v) = kinds
+kindsWith kinds states (State k) = set kinds states k
+kindsWith kinds states (Step t) = kinds
+kindsWith kinds states Test = kinds
+kindsWith kinds states (Testv v) = kinds
+kindsWith kinds states (Bind v) = kinds
+kindsWith kinds states Guard = kinds
 
--- the steps after one more command
-abbrev pub edged : Edges → Counts → Kept → Edges
-edged g s (Tied v) = g
-edged g s (State k) = record { count = g .count; from = g .from; to = g .to; bound = g .bound; own = replicate 8 false }
-edged g s (Step t) = record { count = g .count + 1; from = set (g .from) (g .count) (s .states - 1); to = set (g .to) (g .count) t; bound = g .bound; own = replicate 8 false }
-edged g s Test = g
-edged g s (Testv v) = g
-edged g s (Bind v) = record { count = g .count; from = g .from; to = g .to; bound = set (g .bound) ((g .count - 1) * 8 + v) true; own = set (g .own) v true }
-edged g s (Guard p q) = g
+-- where the steps begin
+abbrev pub tableWith : List ℕ → Counts → ℕ → Kept → List ℕ
+tableWith table s at (Tied v) = table
+tableWith table s at (State k) = table
+tableWith table s at (Step t) = set table ((s .states - 1) * 8 + s .steps) at
+tableWith table s at Test = table
+tableWith table s at (Testv v) = table
+tableWith table s at (Bind v) = table
+tableWith table s at Guard = table
 
--- the first bad places after one more command; states from `limit` on are absent, variable v is unbound in state s where v * 16 + s is free
-abbrev pub foundBy : ℕ → List Bool → Found → Counts → ℕ → Kept → Found
-foundBy limit free f s at (Tied v) = f
-foundBy limit free f s at (State k) = f
-foundBy limit free f s at (Step t) = record { absent = first (f .absent) (place (not (ltb t limit)) at); unbound = f .unbound }
-foundBy limit free f s at Test = f
-foundBy limit free f s at (Testv v) = record { absent = f .absent; unbound = first (f .unbound) (place (getD free (v * 16 + (s .states - 1)) false) at) }
-foundBy limit free f s at (Bind v) = f
-foundBy limit free f s at (Guard p q) = record { absent = first (f .absent) p; unbound = first (f .unbound) q }
+-- the tied variables
+abbrev pub tiesWith : List Bool → Kept → List Bool
+tiesWith ties (Tied v) = set ties v true
+tiesWith ties (State k) = ties
+tiesWith ties (Step t) = ties
+tiesWith ties Test = ties
+tiesWith ties (Testv v) = ties
+tiesWith ties (Bind v) = ties
+tiesWith ties Guard = ties
 
--- the variables that are unbound at a VAR of the last step, whose own BINDs count
-unfoldable pub markAt : List Bool → ℕ → List Bool → ℕ → Bool
-markAt free states own v = getD free (v * 16 + (states - 1)) false && not (getD own v false)
+-- the number of steps
+abbrev pub countWith : ℕ → Kept → ℕ
+countWith count (Tied v) = count
+countWith count (State k) = count
+countWith count (Step t) = count + 1
+countWith count Test = count
+countWith count (Testv v) = count
+countWith count (Bind v) = count
+countWith count Guard = count
 
-unfoldable pub marksOf : List Bool → ℕ → List Bool → List Bool
-marksOf free states own = markAt free states own 0 ∷ markAt free states own 1 ∷ markAt free states own 2 ∷ markAt free states own 3 ∷ markAt free states own 4 ∷ markAt free states own 5 ∷ markAt free states own 6 ∷ markAt free states own 7 ∷ []
+-- the states that the steps stand in
+abbrev pub fromWith : List ℕ → ℕ → ℕ → Kept → List ℕ
+fromWith from count states (Tied v) = from
+fromWith from count states (State k) = from
+fromWith from count states (Step t) = set from count (states - 1)
+fromWith from count states Test = from
+fromWith from count states (Testv v) = from
+fromWith from count states (Bind v) = from
+fromWith from count states Guard = from
 
--- what was gathered, and one more command of `used` bytes
-abbrev pub added : ℕ → List Bool → Draft → Kept → ℕ → Draft
-added limit free d c used =
-    record { at = d .at + used; summary = advanceBy (d .summary) c; outline = outlined (d .outline) (d .summary) (d .at) c; edges = edged (d .edges) (d .summary) c; found = foundBy limit free (d .found) (d .summary) (d .at) c }
+-- the targets of the steps
+abbrev pub toWith : List ℕ → ℕ → Kept → List ℕ
+toWith to count (Tied v) = to
+toWith to count (State k) = to
+toWith to count (Step t) = set to count t
+toWith to count Test = to
+toWith to count (Testv v) = to
+toWith to count (Bind v) = to
+toWith to count Guard = to
+
+-- the variables that the steps bind
+abbrev pub boundWith : List Bool → ℕ → Kept → List Bool
+boundWith bound count (Tied v) = bound
+boundWith bound count (State k) = bound
+boundWith bound count (Step t) = bound
+boundWith bound count Test = bound
+boundWith bound count (Testv v) = bound
+boundWith bound count (Bind v) = set bound ((count - 1) * 8 + v) true
+boundWith bound count Guard = bound
+
+-- the variables that the last step binds
+abbrev pub ownWith : List Bool → Kept → List Bool
+ownWith own (Tied v) = own
+ownWith own (State k) = replicate 8 false
+ownWith own (Step t) = replicate 8 false
+ownWith own Test = own
+ownWith own (Testv v) = own
+ownWith own (Bind v) = set own v true
+ownWith own Guard = own
+
+-- the places, with a STEP and a TESTV at `at`
+abbrev pub placesWith : List ℕ → ℕ → ℕ → Kept → List ℕ
+placesWith places states at (Tied v) = places
+placesWith places states at (State k) = places
+placesWith places states at (Step t) = noted places (stateKey t) at
+placesWith places states at Test = places
+placesWith places states at (Testv v) = noted places (v * 16 + (states - 1)) at
+placesWith places states at (Bind v) = places
+placesWith places states at Guard = places
+
+-- what was gathered, and one more command of `used` bytes, with the places after it was read
+abbrev pub added : Draft → Kept → ℕ → List ℕ → Draft
+added d c used places =
+    record {
+      at = d .at + used;
+      summary = advanceBy (d .summary) c;
+      kinds = kindsWith (d .kinds) (d .summary .states) c;
+      table = tableWith (d .table) (d .summary) (d .at) c;
+      ties = tiesWith (d .ties) c;
+      count = countWith (d .count) c;
+      from = fromWith (d .from) (d .count) (d .summary .states) c;
+      to = toWith (d .to) (d .count) c;
+      bound = boundWith (d .bound) (d .count) c;
+      own = ownWith (d .own) c;
+      places = placesWith places (d .summary .states) (d .at) c;
+    }
 
 -- nothing gathered yet
 unfoldable pub emptyDraft : Draft
@@ -109,37 +170,51 @@ emptyDraft =
     record {
       at = 0;
       summary = record { tied = 0; states = 0; last = false; steps = 0; clauses = 0; guarded = false };
-      outline = record { kinds = replicate 16 0; table = replicate 128 0; ties = replicate 8 false };
-      edges = record { count = 0; from = replicate 128 0; to = replicate 128 0; bound = replicate 1024 false; own = replicate 8 false };
-      found = record { absent = place false 0; unbound = place false 0 };
+      kinds = replicate 16 0;
+      table = replicate 128 0;
+      ties = replicate 8 false;
+      count = 0;
+      from = replicate 128 0;
+      to = replicate 128 0;
+      bound = replicate 1024 false;
+      own = replicate 8 false;
+      places = replicate 145 nowhere;
     }
+
+-- END was reached; a command was refused, and nothing is handed on
+abbrev pub arrived : Draft → Scan
+arrived d = record { verdict = Accepted; draft = d }
+
+abbrev pub stopped : Refusal → Scan
+stopped r = record { verdict = Refused r; draft = emptyDraft }
 
 -- the end of the walk, where no command was taken
 abbrev pub finishedWith : Draft → Read → Scan
-finishedWith d (Taken c used) = record { verdict = Refused (CutShort InFormula 0); draft = d }
-finishedWith d End = record { verdict = Accepted; draft = d }
-finishedWith d (Bad r) = record { verdict = Refused r; draft = d }
+finishedWith d (Taken c used) = stopped (CutShort InFormula 0)
+finishedWith d End = arrived d
+finishedWith d (Bad r) = stopped r
 
-abbrev pub onward : (Draft → Scan) → ℕ → List Bool → Draft → Read → Scan
-onward go limit free d (Taken c used) = go (added limit free d c used)
-onward go limit free d End = finishedWith d End
-onward go limit free d (Bad r) = finishedWith d (Bad r)
+abbrev pub onward : (Draft → Scan) → Draft → NextEnd → Scan
+onward go d (goes-on c used places) = go (added d c used places)
+onward go d (ends places) = arrived d
+onward go d (breaks r) = stopped r
 
 -- the next command behind what was gathered
-unfoldable pub nextFrom : ℕ → ℕ → List Bool → List ℕ → Draft → Read
-nextFrom fields limit free l d = nextShape (marksOf free (d .summary .states) (d .edges .own)) limit (d .at) (next fields (told (d .summary)) (d .at) (drop (d .at) l))
+unfoldable pub nextFrom : ℕ → List ℕ → Draft → NextEnd
+nextFrom fields l d = nextShape (d .summary .states - 1) (d .own) (d .at) (d .places) (next fields (told (d .summary)) (d .at) (drop (d .at) l))
 
 -- the walk from what was gathered on, for at most `fuel` commands
-unfoldable pub scanFrom : ℕ → ℕ → ℕ → List Bool → List ℕ → Draft → Scan
-scanFrom zero fields limit free l d = finishedWith d (Bad (CutShort InFormula (d .at)))
-scanFrom (suc fuel) fields limit free l d = onward (scanFrom fuel fields limit free l) limit free d (nextFrom fields limit free l d)
+unfoldable pub scanFrom : ℕ → ℕ → List ℕ → Draft → Scan
+scanFrom zero fields l d = stopped (CutShort InFormula (d .at))
+scanFrom (suc fuel) fields l d = onward (scanFrom fuel fields l) d (nextFrom fields l d)
 
 -- the walk of a file
-unfoldable pub scanFile : ℕ → ℕ → List Bool → List ℕ → Scan
-scanFile fields limit free l = scanFrom (suc (length l)) fields limit free l emptyDraft
+unfoldable pub scanFile : ℕ → List ℕ → Scan
+scanFile fields l = scanFrom (suc (length l)) fields l emptyDraft
 
 -- what a walk answers: its definition's answer, inside the file, with no more steps than there can be
-pub record Scanned (fields limit : ℕ) (free : List Bool) (l : List ℕ) (r : Scan) : Type 0 where
-  pub is : r ≡ scanFile fields limit free l
+pub record Scanned (fields : ℕ) (l : List ℕ) (r : Scan) : Type 0 where
+  pub is : r ≡ scanFile fields l
   pub inside : r .draft .at ≤ length l
-  pub steps : r .draft .edges .count ≤ 128
+  pub states : r .draft .summary .states ≤ 16
+  pub steps : r .draft .count ≤ 128

@@ -7,10 +7,7 @@ use lib.ListN.{length, getD, drop}
 use Rattle.refusal.specs.declared.File.the-variants.{Formula as InFormula}
 use Rattle.refusal.specs.declared.Refusal.{Refusal}
 use Rattle.refusal.specs.declared.Refusal.the-variants.{CutShort, Foreign, Value, Surplus}
-use Rattle.formula_reader.specs.declared.Place.{Place}
 use Rattle.formula_reader.specs.declared.Prefix.{Prefix}
-use Rattle.formula_reader.specs.declared.ExprRead.{ExprRead}
-use Rattle.formula_reader.specs.declared.ExprRead.the-variants.{Taken as ExprTaken, Bad as ExprBad}
 use Rattle.formula_reader.specs.declared.Summary.{Summary as Counts}
 use Rattle.formula_reader.specs.declared.Opcode.{Opcode as Named}
 use Rattle.formula_reader.specs.declared.Opcode.the-variants.{End as NamedEnd, State as NamedState, Step as NamedStep, Test as NamedTest, Testv as NamedTestv, Bind as NamedBind, Guard as NamedGuard, Tied as NamedTied, Other as NamedOther}
@@ -20,8 +17,9 @@ use Rattle.formula_reader.specs.declared.Next.{Next as Read}
 use Rattle.formula_reader.specs.declared.Next.the-variants.{Taken, End, Bad}
 use Rattle.formula.specs.Formula.{TEST, TESTV, BIND}
 use Rattle.formula.specs.Encode.{Command, TIED, STATE, STEP, CLAUSE, GUARD, kindByte}
-use Rattle.formula.specs.Read.{Summary, Opcode, end-op, state-op, step-op, test-op, testv-op, bind-op, guard-op, tied-op, other-op, opcode, readExpr, Next, command, end, bad, firstLeaf}
-use Rattle.formula_reader.specs.Prefix.{placeOf, shape}
+use Rattle.formula.specs.Read.{Summary, Opcode, end-op, state-op, step-op, test-op, testv-op, bind-op, guard-op, tied-op, other-op, opcode, readExpr, Next, command, end, bad}
+use Rattle.formula_reader.specs.Places.{leavesNoted}
+use Rattle.formula_reader.specs.Prefix.{ExprEnd, whole, broken, shape}
 
 -- the reader's summary as the definition has it
 abbrev pub told : Counts → Summary
@@ -39,21 +37,41 @@ opcodeShape guard-op = NamedGuard
 opcodeShape tied-op = NamedTied
 opcodeShape other-op = NamedOther
 
--- what is kept of a command at `at`; bad are the variables marked and the states from `limit` on
-abbrev pub commandShape : List Bool → ℕ → ℕ → Command → Kept
-commandShape marks limit at (TIED v) = Tied v
-commandShape marks limit at (STATE k) = State (kindByte k)
-commandShape marks limit at (STEP t) = Step t
-commandShape marks limit at (CLAUSE (TEST f o x)) = Test
-commandShape marks limit at (CLAUSE (TESTV f o v)) = Testv v
-commandShape marks limit at (CLAUSE (BIND f v)) = Bind v
-commandShape marks limit at (GUARD e) = Guard (placeOf (firstLeaf (λ v. false) (λ s. not (ltb s limit)) (at + 1) e)) (placeOf (firstLeaf (λ v. getD marks v false) (λ s. false) (at + 1) e))
+-- what is kept of a command
+abbrev pub commandShape : Command → Kept
+commandShape (TIED v) = Tied v
+commandShape (STATE k) = State (kindByte k)
+commandShape (STEP t) = Step t
+commandShape (CLAUSE (TEST f o x)) = Test
+commandShape (CLAUSE (TESTV f o v)) = Testv v
+commandShape (CLAUSE (BIND f v)) = Bind v
+commandShape (GUARD e) = Guard
+
+-- the places after a command at `at` was read: a GUARD's expression is noted, in a step of state s that binds the variables marked
+abbrev pub guardNoted : ℕ → List Bool → ℕ → List ℕ → Command → List ℕ
+guardNoted s own at places (TIED v) = places
+guardNoted s own at places (STATE k) = places
+guardNoted s own at places (STEP t) = places
+guardNoted s own at places (CLAUSE c) = places
+guardNoted s own at places (GUARD e) = leavesNoted s own (at + 1) e places
+
+-- what stands next with the places after it
+pub data NextEnd : Type 0 where
+  goes-on : Kept → ℕ → List ℕ → NextEnd
+  ends : List ℕ → NextEnd
+  breaks : Refusal → NextEnd
+
+-- what a reading and the places after it amount to: after a refusal no place counts
+abbrev pub nextEnd : Read → List ℕ → NextEnd
+nextEnd (Taken c used) places = goes-on c used places
+nextEnd End places = ends places
+nextEnd (Bad r) places = breaks r
 
 -- what is kept of what stands next
-abbrev pub nextShape : List Bool → ℕ → ℕ → Next → Read
-nextShape marks limit at (command c used) = Taken (commandShape marks limit at c) used
-nextShape marks limit at end = End
-nextShape marks limit at (bad r) = Bad r
+abbrev pub nextShape : ℕ → List Bool → ℕ → List ℕ → Next → NextEnd
+nextShape s own at places (command c used) = goes-on (commandShape c) used (guardNoted s own at places c)
+nextShape s own at places end = ends places
+nextShape s own at places (bad r) = breaks r
 
 -- the commands that are allowed, and room for one more
 abbrev pub allowedIn : Counts → Named → Bool
@@ -101,29 +119,29 @@ unfoldable pub bindAt : List ℕ → ℕ → ℕ → Read
 bindAt bs at fields = operandsAt bs at 3 (ltb (getD bs 1 0) fields && ltb (getD bs 2 0) 8) (Bind (getD bs 2 0))
 
 -- a GUARD with its expression
-abbrev pub guardOf : ExprRead → Read
-guardOf (ExprTaken p) = Taken (Guard (p .count) (p .var)) (1 + p .used)
-guardOf (ExprBad r) = Bad r
+abbrev pub guardOf : ExprEnd → NextEnd
+guardOf (whole p places) = goes-on Guard (1 + p .used) places
+guardOf (broken r) = breaks r
 
-unfoldable pub guardAt : List Bool → ℕ → List ℕ → ℕ → Read
-guardAt marks limit bs at = guardOf (shape marks limit (at + 1) (readExpr 8 31 (at + 1) (drop 1 bs)))
+unfoldable pub guardAt : ℕ → List Bool → List ℕ → ℕ → List ℕ → NextEnd
+guardAt s own bs at places = guardOf (shape s own (at + 1) places (readExpr 8 31 (at + 1) (drop 1 bs)))
 
 -- an allowed command
-abbrev pub takenAt : List Bool → ℕ → ℕ → List ℕ → ℕ → Named → Read
-takenAt marks limit fields bs at NamedEnd = End
-takenAt marks limit fields bs at NamedState = stateAt bs at
-takenAt marks limit fields bs at NamedStep = stepAt bs at
-takenAt marks limit fields bs at NamedTest = testAt bs at fields
-takenAt marks limit fields bs at NamedTestv = testvAt bs at fields
-takenAt marks limit fields bs at NamedBind = bindAt bs at fields
-takenAt marks limit fields bs at NamedGuard = guardAt marks limit bs at
-takenAt marks limit fields bs at NamedTied = tiedAt bs at
-takenAt marks limit fields bs at NamedOther = Bad (Foreign InFormula at)
+abbrev pub takenAt : ℕ → List Bool → ℕ → List ℕ → ℕ → List ℕ → Named → NextEnd
+takenAt s own fields bs at places NamedEnd = ends places
+takenAt s own fields bs at places NamedState = nextEnd (stateAt bs at) places
+takenAt s own fields bs at places NamedStep = nextEnd (stepAt bs at) places
+takenAt s own fields bs at places NamedTest = nextEnd (testAt bs at fields) places
+takenAt s own fields bs at places NamedTestv = nextEnd (testvAt bs at fields) places
+takenAt s own fields bs at places NamedBind = nextEnd (bindAt bs at fields) places
+takenAt s own fields bs at places NamedGuard = guardAt s own bs at places
+takenAt s own fields bs at places NamedTied = nextEnd (tiedAt bs at) places
+takenAt s own fields bs at places NamedOther = breaks (Foreign InFormula at)
 
--- the command at `at`, where bs begins
-unfoldable pub nextAt : List Bool → ℕ → ℕ → Counts → List ℕ → ℕ → Read
-nextAt marks limit fields s bs at =
-    cond (eqb (length bs) 0) (Bad (CutShort InFormula at))
+-- the command at `at`, where bs begins, in a step of the last state that binds the variables marked
+unfoldable pub nextAt : Counts → List Bool → ℕ → List ℕ → ℕ → List ℕ → NextEnd
+nextAt s own fields bs at places =
+    cond (eqb (length bs) 0) (breaks (CutShort InFormula at))
     (cond (allowedIn s (opcodeShape (opcode (getD bs 0 0))))
-    (cond (roomIn s (opcodeShape (opcode (getD bs 0 0)))) (takenAt marks limit fields bs at (opcodeShape (opcode (getD bs 0 0)))) (Bad (Surplus InFormula at)))
-    (Bad (Foreign InFormula at)))
+    (cond (roomIn s (opcodeShape (opcode (getD bs 0 0)))) (takenAt (s .states - 1) own fields bs at places (opcodeShape (opcode (getD bs 0 0)))) (breaks (Surplus InFormula at)))
+    (breaks (Foreign InFormula at)))

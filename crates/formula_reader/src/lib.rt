@@ -6,14 +6,15 @@ ghost use mathlib.Core.Bool.{true, false, not, _&&_, cond};
 ghost use lib.Dec.{ltb};
 ghost use mathlib.Core.List.{List};
 ghost use Rattle.event_log.specs.Log.{Kind};
-ghost use Prim.Native.Nat.{_+_, _-_, _^_, _≤_, _<_};
+ghost use Prim.Native.Nat.{_+_, _*_, _-_, _^_, _≤_, _<_, min};
 ghost use lib.ListN.{length, getD, set};
 ghost use Rattle.formula.specs.Read.{exprOpcode, readExpr, opcode, next, refused, readFormula};
 ghost use Rattle.formula_reader.specs.Answer.{answerOf, maskOf, acceptedWith, judgedWith, refusalIn};
-ghost use Rattle.formula_reader.specs.Reach.{markBy, roundFrom, reachOf, Free, Stored};
-ghost use Rattle.formula_reader.specs.Scan.{Counted, Ready, Within, clauseMore, advanceBy, outlined, edged, foundBy, markAt, marksOf, added, emptyDraft, finishedWith, Scanned};
-ghost use Rattle.formula_reader.specs.Take.{opcodeShape, allowedIn, roomIn, operandsAt, stateAt, stepAt, tiedAt, testAt, testvAt, bindAt, guardAt, takenAt, nextAt, nextShape, told};
-ghost use Rattle.formula_reader.specs.Prefix.{takes, over, place, first, joined, command, constHead, varHead, countHead, exprHead, shape};
+ghost use Rattle.formula_reader.specs.Places.{noted, stateKey, varNoted, picked, lowestOf};
+ghost use Rattle.formula_reader.specs.Reach.{edges, markBy, roundFrom, reachOf, Free, Stored};
+ghost use Rattle.formula_reader.specs.Scan.{Counted, Ready, Within, clauseMore, advanceBy, kindsWith, tableWith, tiesWith, countWith, fromWith, toWith, boundWith, ownWith, placesWith, emptyDraft, stopped, finishedWith, Scanned};
+ghost use Rattle.formula_reader.specs.Take.{opcodeShape, allowedIn, roomIn, operandsAt, stateAt, stepAt, tiedAt, testAt, testvAt, bindAt, guardAt, takenAt, nextEnd, nextShape, told};
+ghost use Rattle.formula_reader.specs.Prefix.{takes, over, joined, command, endOf, constHead, varHead, countHead, headOf, exprHead, shape};
 
 // What an expression command takes: a value, a variable, a state, or a number of operands.
 enum Takes {
@@ -24,19 +25,11 @@ enum Takes {
     Foreign,
 }
 
-// A place in the file, if one was found.
-pub struct Place {
-    pub found: bool,
-    pub at: usize,
-}
-
-// The front of an expression: bytes used, commands still allowed, operands still to come, and in it the first COUNT of an absent state and the first unbound VAR.
+// The front of an expression: bytes used, commands still allowed, operands still to come.
 struct Prefix {
     used: usize,
     left: usize,
     operands: usize,
-    count: Place,
-    var: Place,
 }
 
 // The front of an expression, or the refusal of a command in it.
@@ -90,27 +83,44 @@ fn over_at(t: Takes, at: usize) -> ExprRead
     }
 }
 
-// The place of a bad command, or none.
-fn place_if(bad: bool, at: usize) -> Place
-    ensures { λ r. ⌜ r ≡ place bad at ⌝ }
+// The lower of two places.
+fn lower(a: usize, b: usize) -> usize
+    ensures { λ r. ⌜ r ≡ min a b ⌝ }
 {
-    if bad {
-        return Place { found: true, at };
+    if a < b {
+        return a;
     }
-    Place {
-        found: false,
-        at: 0,
-    }
+    b
 }
 
-// The first of two places.
-fn first_of(p: Place, q: Place) -> Place
-    ensures { λ r. ⌜ r ≡ first p q ⌝ }
+// A key is named at `at`: the lowest place is kept.
+fn note(places: &mut [usize; 145], key: usize, at: usize)
+    requires { ⌜ key < 145 ⌝ }
+    ensures { λ r. ⌜ now (places .exit) ≡ noted (now (places .entry)) key at ⌝ }
 {
-    if p.found {
-        return p;
+    let lowest = lower(at, places[key]);
+    places[key] = lowest;
+}
+
+// The key of a state; those that no formula has share one.
+fn state_key(t: usize) -> usize
+    ensures { λ r. ⌜ (r ≡ stateKey t) × (r < 145) ⌝ }
+{
+    if t < 16 {
+        return 128 + t;
     }
-    q
+    144
+}
+
+// A VAR of variable v in a step of this state, unless the step's own BINDs bind it.
+fn note_var(places: &mut [usize; 145], state: usize, own: [bool; 8], v: usize, at: usize)
+    requires { ⌜ (state < 16) × (v < 8) ⌝ }
+    ensures { λ r. ⌜ now (places .exit) ≡ varNoted state own v at (now (places .entry)) ⌝ }
+{
+    if own[v] {
+        return;
+    }
+    note(places, v * 16 + state, at);
 }
 
 // An expression's front and its next operand.
@@ -118,29 +128,21 @@ fn join(p: Prefix, q: Prefix) -> Prefix
     requires { ⌜ (p .used + q .used < 2 ^ 64) × (0 < p .operands) ⌝ }
     ensures { λ r. ⌜ r ≡ joined p q ⌝ }
 {
-    let pc = p.count;
-    let qc = q.count;
-    let pv = p.var;
-    let qv = q.var;
     Prefix {
         used: p.used + q.used,
         left: q.left,
         operands: p.operands - 1,
-        count: first_of(pc, qc),
-        var: first_of(pv, qv),
     }
 }
 
-// A command with its operands to come and the places in it that are bad.
-fn command_with(used: usize, left: usize, operands: usize, count: Place, var: Place) -> ExprRead
-    ensures { λ r. ⌜ r ≡ command used left operands count var ⌝ }
+// A command with its operands to come.
+fn command_with(used: usize, left: usize, operands: usize) -> ExprRead
+    ensures { λ r. ⌜ r ≡ command used left operands ⌝ }
 {
     ExprRead::Taken(Prefix {
         used,
         left,
         operands,
-        count,
-        var,
     })
 }
 
@@ -154,13 +156,20 @@ fn const_head(part: &[u8], at: usize, left: usize) -> ExprRead
             place: at,
         });
     }
-    let none = place_if(false, 0);
-    command_with(5, left, 0, none, none)
+    command_with(5, left, 0)
 }
 
-// A VAR, or its refusal; `bad` marks the variables that are unbound here.
-fn var_head(part: &[u8], at: usize, left: usize, bad: [bool; 8]) -> ExprRead
-    ensures { λ r. ⌜ r ≡ varHead bad left at (now (part .entry)) ⌝ }
+// A VAR in a step of this state that binds the variables marked, or its refusal.
+fn var_head(
+    part: &[u8],
+    at: usize,
+    left: usize,
+    state: usize,
+    own: [bool; 8],
+    places: &mut [usize; 145],
+) -> ExprRead
+    requires { ⌜ state < 16 ⌝ }
+    ensures { λ r. ⌜ endOf r (now (places .exit)) ≡ varHead state own left at (now (part .entry)) (now (places .entry)) ⌝ }
 {
     if part.len() < 2 {
         return ExprRead::Bad(Refusal::CutShort {
@@ -170,8 +179,8 @@ fn var_head(part: &[u8], at: usize, left: usize, bad: [bool; 8]) -> ExprRead
     }
     let v = base::byte_at(part, 1) as usize;
     if v < 8 {
-        let unbound = bad[v];
-        return command_with(2, left, 0, place_if(false, 0), place_if(unbound, at));
+        note_var(places, state, own, v, at);
+        return command_with(2, left, 0);
     }
     ExprRead::Bad(Refusal::Value {
         file: File::Formula,
@@ -179,9 +188,9 @@ fn var_head(part: &[u8], at: usize, left: usize, bad: [bool; 8]) -> ExprRead
     })
 }
 
-// A COUNT, or its refusal; states from `limit` on are absent.
-fn count_head(part: &[u8], at: usize, left: usize, limit: usize) -> ExprRead
-    ensures { λ r. ⌜ r ≡ countHead limit left at (now (part .entry)) ⌝ }
+// A COUNT, or its refusal.
+fn count_head(part: &[u8], at: usize, left: usize, places: &mut [usize; 145]) -> ExprRead
+    ensures { λ r. ⌜ endOf r (now (places .exit)) ≡ countHead left at (now (part .entry)) (now (places .entry)) ⌝ }
 {
     if part.len() < 2 {
         return ExprRead::Bad(Refusal::CutShort {
@@ -189,19 +198,34 @@ fn count_head(part: &[u8], at: usize, left: usize, limit: usize) -> ExprRead
             place: at,
         });
     }
-    let s = base::byte_at(part, 1) as usize;
-    if s < limit {
-        return command_with(2, left, 0, place_if(false, at), place_if(false, 0));
-    }
-    command_with(2, left, 0, place_if(true, at), place_if(false, 0))
+    let key = state_key(base::byte_at(part, 1) as usize);
+    note(places, key, at);
+    command_with(2, left, 0)
 }
 
-// A command with operands to come.
-fn operator_head(left: usize, operands: usize) -> ExprRead
-    ensures { λ r. ⌜ r ≡ command 1 left operands (place false 0) (place false 0) ⌝ }
+// The expression command of this sort at `at`, where the part begins, or its refusal.
+fn head_of(
+    t: Takes,
+    part: &[u8],
+    at: usize,
+    left: usize,
+    state: usize,
+    own: [bool; 8],
+    places: &mut [usize; 145],
+) -> ExprRead
+    requires { ⌜ state < 16 ⌝ }
+    ensures { λ r. ⌜ endOf r (now (places .exit)) ≡ headOf state own left at (now (part .entry)) (now (places .entry)) t ⌝ }
 {
-    let none = place_if(false, 0);
-    command_with(1, left, operands, none, none)
+    match t {
+        Takes::Value => const_head(part, at, left),
+        Takes::Variable => var_head(part, at, left, state, own, places),
+        Takes::State => count_head(part, at, left, places),
+        Takes::Operands(n) => command_with(1, left, n),
+        Takes::Foreign => ExprRead::Bad(Refusal::Foreign {
+            file: File::Formula,
+            place: at,
+        }),
+    }
 }
 
 // The expression command at `at`, where the part begins, or its refusal.
@@ -210,10 +234,12 @@ fn expr_head(
     at: usize,
     depth: usize,
     left: usize,
-    bad: [bool; 8],
-    limit: usize,
+    state: usize,
+    own: [bool; 8],
+    places: &mut [usize; 145],
 ) -> ExprRead
-    ensures { λ r. ⌜ r ≡ exprHead bad limit depth left at (now (part .entry)) ⌝ }
+    requires { ⌜ state < 16 ⌝ }
+    ensures { λ r. ⌜ endOf r (now (places .exit)) ≡ exprHead state own depth left at (now (part .entry)) (now (places .entry)) ⌝ }
 {
     if part.len() == 0 {
         return ExprRead::Bad(Refusal::CutShort {
@@ -228,38 +254,38 @@ fn expr_head(
     if left == 0 {
         return over_at(t, at);
     }
-    match t {
-        Takes::Value => const_head(part, at, left - 1),
-        Takes::Variable => var_head(part, at, left - 1, bad),
-        Takes::State => count_head(part, at, left - 1, limit),
-        Takes::Operands(n) => operator_head(left - 1, n),
-        Takes::Foreign => ExprRead::Bad(Refusal::Foreign {
-            file: File::Formula,
-            place: at,
-        }),
-    }
+    head_of(t, part, at, left - 1, state, own, places)
 }
 
-// An expression in prefix order from `at` on, where the part begins: its command, then its operands, each at most one level less deep.
+// An expression in prefix order from `at` on, where the part begins: its command, then its operands, each at most one level less deep. Its VARs and COUNTs are noted.
 fn read_expr(
     part: &[u8],
     at: usize,
     depth: usize,
     left: usize,
-    bad: [bool; 8],
-    limit: usize,
+    state: usize,
+    own: [bool; 8],
+    places: &mut [usize; 145],
 ) -> ExprRead
-    requires { ⌜ at + length (now part) < 2 ^ 64 ⌝ }
-    ensures { λ r. ⌜ r ≡ shape bad limit at (readExpr depth left at (now (part .entry))) ⌝ }
+    requires { ⌜ (at + length (now part) < 2 ^ 64) × (state < 16) ⌝ }
+    ensures { λ r. ⌜ endOf r (now (places .exit)) ≡ shape state own at (now (places .entry)) (readExpr depth left at (now (part .entry))) ⌝ }
 {
-    let head = expr_head(part, at, depth, left, bad, limit);
+    let head = expr_head(part, at, depth, left, state, own, places);
     let ExprRead::Taken(p) = head else {
         return head;
     };
     let mut whole = p;
     while 0 < whole.operands {
         let used = whole.used;
-        let operand = read_expr(&part[used..], at + used, depth - 1, whole.left, bad, limit);
+        let operand = read_expr(
+            &part[used..],
+            at + used,
+            depth - 1,
+            whole.left,
+            state,
+            own,
+            places,
+        );
         let ExprRead::Taken(q) = operand else {
             return operand;
         };
@@ -291,7 +317,7 @@ enum Opcode {
     Other,
 }
 
-// A command of the file with what is kept of it: a GUARD's first COUNT of an absent state and its first unbound VAR.
+// A command of the file with what is kept of it.
 enum Command {
     Tied(usize),
     State(u32),
@@ -299,7 +325,7 @@ enum Command {
     Test,
     Testv(usize),
     Bind(usize),
-    Guard { count: Place, var: Place },
+    Guard,
 }
 
 // The next command with its number of bytes, END, or the refusal.
@@ -471,21 +497,23 @@ fn take_bind(part: &[u8], at: usize, fields: usize) -> Next
     operands_at(part, at, 3, both(f < fields, v < 8), Command::Bind(v))
 }
 
-// A GUARD with its expression, or the refusal.
-fn take_guard(part: &[u8], at: usize, marks: [bool; 8], limit: usize) -> Next
-    requires { ⌜ (0 < length (now part)) × (at + length (now part) < 2 ^ 64) ⌝ }
-    ensures { λ r. ⌜ r ≡ guardAt marks limit (now (part .entry)) at ⌝ }
+// A GUARD with its expression, in a step of this state that binds the variables marked, or the refusal.
+fn take_guard(
+    part: &[u8],
+    at: usize,
+    state: usize,
+    own: [bool; 8],
+    places: &mut [usize; 145],
+) -> Next
+    requires { ⌜ (0 < length (now part)) × (at + length (now part) < 2 ^ 64) × (state < 16) ⌝ }
+    ensures { λ r. ⌜ nextEnd r (now (places .exit)) ≡ guardAt state own (now (part .entry)) at (now (places .entry)) ⌝ }
 {
-    let read = read_expr(&part[1..], at + 1, 8, 31, marks, limit);
+    let read = read_expr(&part[1..], at + 1, 8, 31, state, own, places);
     match read {
-        ExprRead::Taken(p) => {
-            let count = p.count;
-            let var = p.var;
-            Next::Taken {
-                command: Command::Guard { count, var },
-                used: 1 + p.used,
-            }
-        }
+        ExprRead::Taken(p) => Next::Taken {
+            command: Command::Guard,
+            used: 1 + p.used,
+        },
         ExprRead::Bad(r) => Next::Bad(r),
     }
 }
@@ -496,11 +524,12 @@ fn take_command(
     part: &[u8],
     at: usize,
     fields: usize,
-    marks: [bool; 8],
-    limit: usize,
+    state: usize,
+    own: [bool; 8],
+    places: &mut [usize; 145],
 ) -> Next
-    requires { ⌜ (0 < length (now part)) × (at + length (now part) < 2 ^ 64) ⌝ }
-    ensures { λ r. ⌜ r ≡ takenAt marks limit fields (now (part .entry)) at op ⌝ }
+    requires { ⌜ (0 < length (now part)) × (at + length (now part) < 2 ^ 64) × (state < 16) ⌝ }
+    ensures { λ r. ⌜ nextEnd r (now (places .exit)) ≡ takenAt state own fields (now (part .entry)) at (now (places .entry)) op ⌝ }
 {
     match op {
         Opcode::End => Next::End,
@@ -509,7 +538,7 @@ fn take_command(
         Opcode::Test => take_test(part, at, fields),
         Opcode::Testv => take_testv(part, at, fields),
         Opcode::Bind => take_bind(part, at, fields),
-        Opcode::Guard => take_guard(part, at, marks, limit),
+        Opcode::Guard => take_guard(part, at, state, own, places),
         Opcode::Tied => take_tied(part, at),
         Opcode::Other => Next::Bad(Refusal::Foreign {
             file: File::Formula,
@@ -518,17 +547,17 @@ fn take_command(
     }
 }
 
-// The next command at `at`, where the part begins, END, or the refusal.
+// The next command at `at`, where the part begins, END, or the refusal; `own` marks the variables that the last step binds.
 fn next_command(
     part: &[u8],
     at: usize,
     fields: usize,
     s: Summary,
-    marks: [bool; 8],
-    limit: usize,
+    own: [bool; 8],
+    places: &mut [usize; 145],
 ) -> Next
-    requires { ⌜ at + length (now part) < 2 ^ 64 ⌝ }
-    ensures { λ r. ⌜ r ≡ nextShape marks limit at (next fields (told s) at (now (part .entry))) ⌝ }
+    requires { ⌜ (at + length (now part) < 2 ^ 64) × (s .states ≤ 16) ⌝ }
+    ensures { λ r. ⌜ nextEnd r (now (places .exit)) ≡ nextShape (s .states - 1) own at (now (places .entry)) (next fields (told s) at (now (part .entry))) ⌝ }
 {
     if part.len() == 0 {
         return Next::Bad(Refusal::CutShort {
@@ -549,7 +578,7 @@ fn next_command(
             place: at,
         });
     }
-    take_command(op, part, at, fields, marks, limit)
+    take_command(op, part, at, fields, before(s.states), own, places)
 }
 
 // Whether a formula is accepted.
@@ -558,35 +587,19 @@ pub enum Verdict {
     Refused(Refusal),
 }
 
-// The kinds of the states, where the steps begin (step k of state s at s * 8 + k), the tied variables.
-struct Outline {
+// What was gathered of the file before `at`: the summary; the kinds of the states, where the steps begin (step k of state s at s * 8 + k), the tied variables; the steps in file order, with the state that each stands in, its target, the variables that it binds (variable v of step i at i * 8 + v), and those that the last one binds; and where variables and states are first named.
+struct Draft {
+    at: usize,
+    summary: Summary,
     kinds: [u32; 16],
     table: [usize; 128],
     ties: [bool; 8],
-}
-
-// The steps in file order: the state that each stands in, its target, the variables that it binds (variable v of step i at i * 8 + v), and those that the last one binds.
-struct Edges {
     count: usize,
     from: [usize; 128],
     to: [usize; 128],
     bound: [bool; 1024],
     own: [bool; 8],
-}
-
-// The first STEP or COUNT of an absent state and the first unbound TESTV or VAR.
-struct Found {
-    absent: Place,
-    unbound: Place,
-}
-
-// What was gathered of the file before `at`.
-struct Draft {
-    at: usize,
-    summary: Summary,
-    outline: Outline,
-    edges: Edges,
-    found: Found,
+    places: [usize; 145],
 }
 
 // How the commands of a file end, and what was gathered of them.
@@ -635,100 +648,124 @@ fn advance(s: Summary, c: Command) -> Summary
         Command::Test => one_clause_more(s),
         Command::Testv(_v) => one_clause_more(s),
         Command::Bind(_v) => one_clause_more(s),
-        Command::Guard { count: _c, var: _v } => {
+        Command::Guard => {
             n.guarded = true;
             n
         }
     }
 }
 
-// The outline after one more command, at `at`.
-fn outline_with(o: Outline, s: Summary, at: usize, c: Command) -> Outline
-    requires { ⌜ Counted s × Ready s c ⌝ }
-    ensures { λ r. ⌜ r ≡ outlined o s at c ⌝ }
+// The kinds after one more command.
+fn keep_kind(kinds: &mut [u32; 16], s: Summary, c: Command)
+    requires { ⌜ Ready s c ⌝ }
+    ensures { λ r. ⌜ now (kinds .exit) ≡ kindsWith (now (kinds .entry)) (s .states) c ⌝ }
 {
-    let mut n = o;
+    let Command::State(k) = c else {
+        return;
+    };
     let states = s.states;
-    let steps = s.steps;
-    match c {
-        Command::Tied(v) => {
-            n.ties[v] = true;
-            n
-        }
-        Command::State(k) => {
-            n.kinds[states] = k;
-            n
-        }
-        Command::Step(_t) => {
-            n.table[(states - 1) * 8 + steps] = at;
-            n
-        }
-        Command::Test => n,
-        Command::Testv(_v) => n,
-        Command::Bind(_v) => n,
-        Command::Guard { count: _c, var: _v } => n,
-    }
+    kinds[states] = k;
 }
 
-// The steps after one more command.
-fn edges_with(g: Edges, s: Summary, c: Command) -> Edges
-    requires { ⌜ (Counted s × Ready s c) × Within s g ⌝ }
-    ensures { λ r. ⌜ r ≡ edged g s c ⌝ }
+// Where the steps begin after one more command, at `at`.
+fn keep_offset(table: &mut [usize; 128], s: Summary, at: usize, c: Command)
+    requires { ⌜ Counted s × Ready s c ⌝ }
+    ensures { λ r. ⌜ now (table .exit) ≡ tableWith (now (table .entry)) s at c ⌝ }
 {
-    let mut n = g;
-    let i = g.count;
+    let Command::Step(_t) = c else {
+        return;
+    };
+    table[(s.states - 1) * 8 + s.steps] = at;
+}
+
+// The tied variables after one more command.
+fn keep_tie(ties: &mut [bool; 8], s: Summary, c: Command)
+    requires { ⌜ Ready s c ⌝ }
+    ensures { λ r. ⌜ now (ties .exit) ≡ tiesWith (now (ties .entry)) c ⌝ }
+{
+    let Command::Tied(v) = c else {
+        return;
+    };
+    ties[v] = true;
+}
+
+// The number of steps after one more command.
+fn steps_after(count: usize, c: Command) -> usize
+    requires { ⌜ count ≤ 128 ⌝ }
+    ensures { λ r. ⌜ r ≡ countWith count c ⌝ }
+{
+    let Command::Step(_t) = c else {
+        return count;
+    };
+    count + 1
+}
+
+// The states that the steps stand in after one more command.
+fn keep_from(from: &mut [usize; 128], count: usize, s: Summary, c: Command)
+    requires { ⌜ (Counted s × Ready s c) × Within s count ⌝ }
+    ensures { λ r. ⌜ now (from .exit) ≡ fromWith (now (from .entry)) count (s .states) c ⌝ }
+{
+    let Command::Step(_t) = c else {
+        return;
+    };
+    from[count] = s.states - 1;
+}
+
+// The targets after one more command.
+fn keep_to(to: &mut [usize; 128], count: usize, s: Summary, c: Command)
+    requires { ⌜ (Counted s × Ready s c) × Within s count ⌝ }
+    ensures { λ r. ⌜ now (to .exit) ≡ toWith (now (to .entry)) count c ⌝ }
+{
+    let Command::Step(t) = c else {
+        return;
+    };
+    to[count] = t;
+}
+
+// The variables that the steps bind after one more command.
+fn keep_bound(bound: &mut [bool; 1024], count: usize, s: Summary, c: Command)
+    requires { ⌜ (Counted s × Ready s c) × Within s count ⌝ }
+    ensures { λ r. ⌜ now (bound .exit) ≡ boundWith (now (bound .entry)) count c ⌝ }
+{
+    let Command::Bind(v) = c else {
+        return;
+    };
+    bound[(count - 1) * 8 + v] = true;
+}
+
+// The variables that the last step binds after one more command.
+fn own_after(own: [bool; 8], s: Summary, c: Command) -> [bool; 8]
+    requires { ⌜ Ready s c ⌝ }
+    ensures { λ r. ⌜ r ≡ ownWith own c ⌝ }
+{
+    let mut n = own;
     match c {
         Command::Tied(_v) => n,
-        Command::State(_k) => {
-            n.own = [false; 8];
-            n
-        }
-        Command::Step(t) => {
-            n.from[i] = s.states - 1;
-            n.to[i] = t;
-            n.count = i + 1;
-            n.own = [false; 8];
-            n
-        }
+        Command::State(_k) => [false; 8],
+        Command::Step(_t) => [false; 8],
         Command::Test => n,
         Command::Testv(_v) => n,
         Command::Bind(v) => {
-            n.bound[(i - 1) * 8 + v] = true;
-            n.own[v] = true;
+            n[v] = true;
             n
         }
-        Command::Guard { count: _c, var: _v } => n,
+        Command::Guard => n,
     }
 }
 
-// The first bad places after one more command at `at`; states from `limit` on are absent, `free` says which variables are unbound in which states (variable v in state s at v * 16 + s).
-fn found_with(f: Found, s: Summary, at: usize, c: Command, limit: usize, free: [bool; 128]) -> Found
+// The places after a STEP or a TESTV at `at`.
+fn note_command(places: &mut [usize; 145], s: Summary, at: usize, c: Command)
     requires { ⌜ Counted s × Ready s c ⌝ }
-    ensures { λ r. ⌜ r ≡ foundBy limit free f s at c ⌝ }
+    ensures { λ r. ⌜ now (places .exit) ≡ placesWith (now (places .entry)) (s .states) at c ⌝ }
 {
-    let absent = f.absent;
-    let unbound = f.unbound;
-    let states = s.states;
     match c {
-        Command::Tied(_v) => f,
-        Command::State(_k) => f,
-        Command::Step(t) => Found {
-            absent: first_of(absent, place_if(!(t < limit), at)),
-            unbound,
-        },
-        Command::Test => f,
-        Command::Testv(v) => {
-            let bad = free[v * 16 + before(states)];
-            Found {
-                absent,
-                unbound: first_of(unbound, place_if(bad, at)),
-            }
-        }
-        Command::Bind(_v) => f,
-        Command::Guard { count, var } => Found {
-            absent: first_of(absent, count),
-            unbound: first_of(unbound, var),
-        },
+        Command::Tied(_v) => {}
+        Command::State(_k) => {}
+        Command::Step(t) => note(places, state_key(t), at),
+        Command::Test => {}
+        Command::Testv(v) => note(places, v * 16 + before(s.states), at),
+        Command::Bind(_v) => {}
+        Command::Guard => {}
     }
 }
 
@@ -742,56 +779,10 @@ fn before(n: usize) -> usize
     n - 1
 }
 
-// Whether a variable is unbound at a VAR of the last step, whose own BINDs count.
-fn mark_at(free: [bool; 128], states: usize, own: [bool; 8], v: usize) -> bool
-    requires { ⌜ (states ≤ 16) × (v < 8) ⌝ }
-    ensures { λ r. ⌜ r ≡ markAt free states own v ⌝ }
-{
-    let s = before(states);
-    both(free[v * 16 + s], !own[v])
-}
-
-// The variables that are unbound at a VAR of the last step.
-fn marks_of(free: [bool; 128], states: usize, own: [bool; 8]) -> [bool; 8]
-    requires { ⌜ states ≤ 16 ⌝ }
-    ensures { λ r. ⌜ r ≡ marksOf free states own ⌝ }
-{
-    [
-        mark_at(free, states, own, 0),
-        mark_at(free, states, own, 1),
-        mark_at(free, states, own, 2),
-        mark_at(free, states, own, 3),
-        mark_at(free, states, own, 4),
-        mark_at(free, states, own, 5),
-        mark_at(free, states, own, 6),
-        mark_at(free, states, own, 7),
-    ]
-}
-
-// What was gathered, and one more command.
-fn add(d: Draft, c: Command, used: usize, limit: usize, free: [bool; 128]) -> Draft
-    requires { ⌜ (Counted (d .summary) × Ready (d .summary) c) × (Within (d .summary) (d .edges) × (d .at + used < 2 ^ 64)) ⌝ }
-    ensures { λ r. ⌜ r ≡ added limit free d c used ⌝ }
-{
-    let at = d.at;
-    let s = d.summary;
-    let o = d.outline;
-    let g = d.edges;
-    let f = d.found;
-    Draft {
-        at: at + used,
-        summary: advance(s, c),
-        outline: outline_with(o, s, at, c),
-        edges: edges_with(g, s, c),
-        found: found_with(f, s, at, c, limit, free),
-    }
-}
-
 // Nothing gathered yet.
 fn empty_draft() -> Draft
     ensures { λ r. ⌜ r ≡ emptyDraft ⌝ }
 {
-    let none = place_if(false, 0);
     Draft {
         at: 0,
         summary: Summary {
@@ -802,22 +793,25 @@ fn empty_draft() -> Draft
             clauses: 0,
             guarded: false,
         },
-        outline: Outline {
-            kinds: [0u32; 16],
-            table: [0usize; 128],
-            ties: [false; 8],
-        },
-        edges: Edges {
-            count: 0,
-            from: [0usize; 128],
-            to: [0usize; 128],
-            bound: [false; 1024],
-            own: [false; 8],
-        },
-        found: Found {
-            absent: none,
-            unbound: none,
-        },
+        kinds: [0u32; 16],
+        table: [0usize; 128],
+        ties: [false; 8],
+        count: 0,
+        from: [0usize; 128],
+        to: [0usize; 128],
+        bound: [false; 1024],
+        own: [false; 8],
+        places: [18446744073709551615usize; 145],
+    }
+}
+
+// A walk that a refusal ends.
+fn stopped_by(r: Refusal) -> Scan
+    ensures { λ s. ⌜ s ≡ stopped r ⌝ }
+{
+    Scan {
+        verdict: Verdict::Refused(r),
+        draft: empty_draft(),
     }
 }
 
@@ -829,40 +823,44 @@ fn finish(d: Draft, n: Next) -> Scan
         Next::Taken {
             command: _c,
             used: _u,
-        } => Scan {
-            verdict: Verdict::Refused(Refusal::CutShort {
-                file: File::Formula,
-                place: 0,
-            }),
-            draft: d,
-        },
+        } => stopped_by(Refusal::CutShort {
+            file: File::Formula,
+            place: 0,
+        }),
         Next::End => Scan {
             verdict: Verdict::Accepted,
             draft: d,
         },
-        Next::Bad(r) => Scan {
-            verdict: Verdict::Refused(r),
-            draft: d,
-        },
+        Next::Bad(r) => stopped_by(r),
     }
 }
 
 // Walks the commands of a file from the front to END or to the first bad one.
-fn scan_file(l: &[u8], fields: usize, limit: usize, free: [bool; 128]) -> Scan
-    ensures { λ r. ⌜ Scanned fields limit free (now (l .entry)) r ⌝ }
+fn scan_file(l: &[u8], fields: usize) -> Scan
+    ensures { λ r. ⌜ Scanned fields (now (l .entry)) r ⌝ }
 {
     let mut d = empty_draft();
     loop {
         let at = d.at;
         let s = d.summary;
-        let g = d.edges;
-        let own = g.own;
-        let marks = marks_of(free, s.states, own);
-        let next = next_command(&l[at..], at, fields, s, marks, limit);
+        let count = d.count;
+        let own = d.own;
+        let next = next_command(&l[at..], at, fields, s, own, &mut d.places);
         let Next::Taken { command, used } = next else {
             return finish(d, next);
         };
-        d = add(d, command, used, limit, free);
+        note_command(&mut d.places, s, at, command);
+        keep_kind(&mut d.kinds, s, command);
+        keep_offset(&mut d.table, s, at, command);
+        keep_tie(&mut d.ties, s, command);
+        keep_from(&mut d.from, count, s, command);
+        keep_to(&mut d.to, count, s, command);
+        keep_bound(&mut d.bound, count, s, command);
+        let bound_here = own_after(own, s, command);
+        d.own = bound_here;
+        d.count = steps_after(count, command);
+        d.summary = advance(s, command);
+        d.at = at + used;
     }
 }
 
@@ -899,30 +897,59 @@ fn mark_step(m: [bool; 16], from: usize, to: usize, bound: bool) -> [bool; 16]
 }
 
 // One round over the steps in file order.
-fn round_of(g: Edges, v: usize, m: [bool; 16]) -> [bool; 16]
-    requires { ⌜ (g .count ≤ 128) × (v < 8) ⌝ }
-    ensures { λ r. ⌜ r ≡ roundFrom g v 0 (g .count) m ⌝ }
+fn round_of(
+    count: usize,
+    from: &[usize; 128],
+    to: &[usize; 128],
+    bound: &[bool; 1024],
+    v: usize,
+    m: [bool; 16],
+) -> [bool; 16]
+    requires { ⌜ (count ≤ 128) × (v < 8) ⌝ }
+    ensures { λ r. ⌜ r ≡ roundFrom (edges count (now (from .entry)) (now (to .entry)) (now (bound .entry))) v 0 count m ⌝ }
 {
-    let count = g.count;
     let mut marks = m;
     let mut i: usize = 0;
     while i < count {
-        let next = mark_step(marks, g.from[i], g.to[i], g.bound[i * 8 + v]);
+        let next = mark_step(marks, from[i], to[i], bound[i * 8 + v]);
         marks = next;
         i += 1;
     }
     marks
 }
 
-// The states that some path reaches without binding the variable: state 0, then 16 rounds.
-fn reach(g: Edges, v: usize) -> [bool; 16]
-    requires { ⌜ (g .count ≤ 128) × (v < 8) ⌝ }
-    ensures { λ r. ⌜ r ≡ reachOf g v ⌝ }
+// Whether two sets of states are the same.
+fn same_marks(a: [bool; 16], b: [bool; 16]) -> bool
+    ensures { λ r. ⌜ (r ≡ true → a ≡ b) × (r ≡ false → a ≡ b → ⊥) ⌝ }
+{
+    let mut i: usize = 0;
+    while i < 16 {
+        if a[i] != b[i] {
+            return false;
+        }
+        i += 1;
+    }
+    true
+}
+
+// The states that some path reaches without binding the variable: state 0, then rounds until one adds nothing, which 16 do.
+fn reach(
+    count: usize,
+    from: &[usize; 128],
+    to: &[usize; 128],
+    bound: &[bool; 1024],
+    v: usize,
+) -> [bool; 16]
+    requires { ⌜ (count ≤ 128) × (v < 8) ⌝ }
+    ensures { λ r. ⌜ r ≡ reachOf (edges count (now (from .entry)) (now (to .entry)) (now (bound .entry))) v ⌝ }
 {
     let mut marks = with_mark([false; 16], 0);
     let mut n: usize = 0;
     while n < 16 {
-        let next = round_of(g, v, marks);
+        let next = round_of(count, from, to, bound, v, marks);
+        if same_marks(marks, next) {
+            return next;
+        }
         marks = next;
         n += 1;
     }
@@ -944,18 +971,56 @@ fn store_marks(free: [bool; 128], v: usize, m: [bool; 16]) -> [bool; 128]
 }
 
 // Which variables some path to which state binds nowhere.
-fn free_of(g: Edges) -> [bool; 128]
-    requires { ⌜ g .count ≤ 128 ⌝ }
-    ensures { λ r. ⌜ Free g r ⌝ }
+fn free_of(
+    count: usize,
+    from: &[usize; 128],
+    to: &[usize; 128],
+    bound: &[bool; 1024],
+) -> [bool; 128]
+    requires { ⌜ count ≤ 128 ⌝ }
+    ensures { λ r. ⌜ Free (edges count (now (from .entry)) (now (to .entry)) (now (bound .entry))) r ⌝ }
 {
     let mut free = [false; 128];
     let mut v: usize = 0;
     while v < 8 {
-        let next = store_marks(free, v, reach(g, v));
+        let next = store_marks(free, v, reach(count, from, to, bound, v));
         free = next;
         v += 1;
     }
     free
+}
+
+// Whether a key is looked at: that of a variable where it is free, that of a state from a key on.
+fn is_picked(free: [bool; 128], from: usize, key: usize) -> bool
+    ensures { λ r. ⌜ r ≡ picked free from key ⌝ }
+{
+    if key < 128 {
+        return free[key];
+    }
+    from <= key
+}
+
+// The place of a key that is looked at, or nowhere.
+fn place_if(look: bool, place: usize) -> usize
+    ensures { λ r. ⌜ r ≡ cond look place 18446744073709551615 ⌝ }
+{
+    if look {
+        return place;
+    }
+    18446744073709551615
+}
+
+// The lowest place of the keys that are looked at, or nowhere.
+fn lowest_of(free: [bool; 128], from: usize, places: &[usize; 145]) -> usize
+    ensures { λ r. ⌜ r ≡ lowestOf free from (now (places .entry)) ⌝ }
+{
+    let mut lowest: usize = 18446744073709551615;
+    let mut key: usize = 145;
+    while 0 < key {
+        key -= 1;
+        lowest = lower(place_if(is_picked(free, from, key), places[key]), lowest);
+    }
+    lowest
 }
 
 // The verdict, and of an accepted formula its number of states, their kinds (0 ordinary, 1 committed, 2 accept, 3 reject), where its steps begin (step k of state s at s * 8 + k, 0 where there is none) and the mask of its tied variables (bit v set where variable v is tied).
@@ -1017,10 +1082,9 @@ fn accepted_with(d: Draft) -> FormulaReading
     ensures { λ a. ⌜ a ≡ acceptedWith d ⌝ }
 {
     let s = d.summary;
-    let o = d.outline;
-    let kinds = o.kinds;
-    let table = o.table;
-    let ties = o.ties;
+    let kinds = d.kinds;
+    let table = d.table;
+    let ties = d.ties;
     FormulaReading {
         verdict: Verdict::Accepted,
         states: s.states,
@@ -1030,24 +1094,21 @@ fn accepted_with(d: Draft) -> FormulaReading
     }
 }
 
-// After END: an absent state, a dead start, an unbound variable, in this order.
-fn judge_with(d: Draft, f: Found) -> FormulaReading
-    ensures { λ a. ⌜ a ≡ judgedWith d f ⌝ }
+// After END: an absent state, a dead start, an unbound variable, in this order; the first place of each, or nowhere.
+fn judge_with(d: Draft, absent: usize, unbound: usize) -> FormulaReading
+    ensures { λ a. ⌜ a ≡ judgedWith d absent unbound ⌝ }
 {
-    let absent = f.absent;
-    let unbound = f.unbound;
-    let o = d.outline;
-    if absent.found {
+    if absent < 18446744073709551615 {
         return refused_with(Refusal::Value {
             file: File::Formula,
-            place: absent.at,
+            place: absent,
         });
     }
-    if 1 < o.kinds[0] {
+    if 1 < d.kinds[0] {
         return refused_with(Refusal::DeadStart);
     }
-    if unbound.found {
-        return refused_with(Refusal::Unbound { place: unbound.at });
+    if unbound < 18446744073709551615 {
+        return refused_with(Refusal::Unbound { place: unbound });
     }
     accepted_with(d)
 }
@@ -1056,12 +1117,12 @@ fn judge_with(d: Draft, f: Found) -> FormulaReading
 pub fn read_formula(l: &[u8], fields: usize) -> FormulaReading
     ensures { λ a. ⌜ ((kinds : List Kind) → length kinds ≡ fields → a ≡ answerOf (readFormula kinds (now (l .entry)))) ⌝ }
 {
-    let first = scan_file(l, fields, 0, [false; 128]);
-    let verdict = first.verdict;
+    let scan = scan_file(l, fields);
+    let verdict = scan.verdict;
     let Verdict::Accepted = verdict else {
         return refused_with(refusal_in(verdict));
     };
-    let d = first.draft;
+    let d = scan.draft;
     let behind = d.at + 1;
     if behind < l.len() {
         return refused_with(Refusal::Leftover {
@@ -1070,9 +1131,11 @@ pub fn read_formula(l: &[u8], fields: usize) -> FormulaReading
         });
     }
     let s = d.summary;
-    let g = d.edges;
-    let second = scan_file(l, fields, s.states, free_of(g));
-    let e = second.draft;
-    let f = e.found;
-    judge_with(d, f)
+    let from = d.from;
+    let to = d.to;
+    let bound = d.bound;
+    let places = d.places;
+    let absent = lowest_of([false; 128], 128 + s.states, &places);
+    let free = free_of(d.count, &from, &to, &bound);
+    judge_with(d, absent, lowest_of(free, 145, &places))
 }

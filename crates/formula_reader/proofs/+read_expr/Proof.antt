@@ -1,13 +1,11 @@
--- `formula::read_expr` meets its contract: the loop keeps the front that was read, and each operand is one level less deep.
-use Rattle.formula.specs.Read.{readExpr}
-use Rattle.formula_reader.specs.Prefix.{shape}
+-- `formula_reader::read_expr` meets its contract: the loop keeps the front that was read, and each operand is one level less deep.
 use borrow.Author.Needs.{needs}
-use Rattle.formula_reader.proofs.CodeGuard.{Going, begun, refused-head, refused-operand, with-operand, ended, part-rest}
-use Rattle.formula_reader.specs.Prefix.{joined}
-use lib.ListN.{length, take, drop, length-drop}
+use Rattle.formula_reader.proofs.CodeGuard.{Going, begun, taken-head, refused-head, refused-operand, operand-within, with-operand, ended, part-length}
+use Rattle.formula_reader.specs.Prefix.{joined, whole}
+use lib.ListN.{length, take, drop}
 use native.Mathlib.Omega.{arith}
-use mathlib.Core.Path.{_≡_, sym, subst, _∙_, ap}
-use Prim.Native.Nat.{ℕ, _<_, _≤_, _-_, _+_}
+use mathlib.Core.Path.{_≡_, _∙_, ap}
+use Prim.Native.Nat.{ℕ, _<_, _-_, _+_}
 use borrow.Fn.Kinds.{In}
 use borrow.Fn.PlainCycle.{Measures, is, falls, and}
 use Rattle.formula_reader.proofs.read_expr.Reads as read-expr
@@ -18,21 +16,21 @@ use Rattle.formula_reader.proofs.join.Reads as join-reads
 use Rattle.formula_reader.proofs.+read_expr.{statement}
 use Rattle.formula_reader.proofs.+read_expr.Tie.{close}
 
-abbrev μ-read-expr : Measures 1 read-expr-kinds.ps ℕ
+abbrev μ-read-expr : Measures 2 read-expr-kinds.ps ℕ
 μ-read-expr κs a = a .1 .1 .0
 
-abbrev read-expr-at : ℕ → In 1 read-expr-kinds.ps
-read-expr-at t = and 1 read-expr-kinds.ps (is 1 read-expr-kinds.ps μ-read-expr t) read-expr.Pre
+abbrev read-expr-at : ℕ → In 2 read-expr-kinds.ps
+read-expr-at t = and 2 read-expr-kinds.ps (is 2 read-expr-kinds.ps μ-read-expr t) read-expr.Pre
 
-abbrev read-expr-below : ℕ → In 1 read-expr-kinds.ps
+abbrev read-expr-below : ℕ → In 2 read-expr-kinds.ps
 read-expr-below t =
-    and 1 read-expr-kinds.ps (falls 1 read-expr-kinds.ps _<_ μ-read-expr t) read-expr.Pre
+    and 2 read-expr-kinds.ps (falls 2 read-expr-kinds.ps _<_ μ-read-expr t) read-expr.Pre
 
 abbrev read-expr-Inv-loop : read-expr-lts.InvT-loop
-read-expr-Inv-loop part at depth left bad limit whole₀ whole = Going bad limit depth left at part whole
+read-expr-Inv-loop part at depth left state own places₀ p₀ places p = Going state own depth at part (whole p₀ places₀) p places
 
 abbrev read-expr-μ-loop : read-expr-lts.MeasureT-loop
-read-expr-μ-loop part at depth left bad limit whole₀ whole = whole .operands
+read-expr-μ-loop part at depth left state own places₀ p₀ places p = p .operands
 
 read-expr-expr-head-requires : (t : ℕ) → read-expr-lts.Need-expr-head-requires (
   expr-head-reads.Asked,
@@ -72,7 +70,10 @@ read-expr-returns : (t : ℕ) → read-expr-lts.Need-returns (
   join-reads.Asked,
   join-reads.Learnt,
 ) (read-expr-at t) read-expr.Post read-expr-Inv-loop read-expr-μ-loop
-read-expr-returns t c = c .enum-told .given .1 ∙ refused-head (c .before .before .before .before .args .bad) (c .before .before .before .before .args .limit) (c .before .before .before .before .args .depth) (c .before .before .before .before .args .left) (c .before .before .before .before .args .at) (c .before .before .before .before .args .part .now) _ (sym (c .enum-told .given .1) ∙ c .before .before .expr-head .ensures)
+read-expr-returns t c =
+    let a = c .before .before .before .before .before .args in
+    let bs = a .part .now in
+    refused-head (a .state) (a .own) (a .depth) (a .left) (a .at) bs (a .places .now) _ _ _ (c .enum-told .given .1) (c .before .before .expr-head .ensures)
 
 read-expr-loop-holds : (t : ℕ) → read-expr-lts.Need-loop-holds (
   expr-head-reads.Asked,
@@ -82,7 +83,10 @@ read-expr-loop-holds : (t : ℕ) → read-expr-lts.Need-loop-holds (
   join-reads.Asked,
   join-reads.Learnt,
 ) (read-expr-at t) read-expr.Post read-expr-Inv-loop read-expr-μ-loop
-read-expr-loop-holds t c = begun (c .before .before .before .before .before .args .bad) (c .before .before .before .before .before .args .limit) (c .before .before .before .before .before .args .depth) (c .before .before .before .before .before .args .left) (c .before .before .before .before .before .args .at) (c .before .before .before .before .before .args .part .now) _ (sym (c .before .head .given .1) ∙ c .before .before .before .expr-head .ensures)
+read-expr-loop-holds t c =
+    let a = c .before .before .before .before .before .before .args in
+    let bs = a .part .now in
+    begun (a .state) (a .own) (a .depth) (a .left) (a .at) bs (a .places .now) _ _ _ (c .before .head .given .1) (c .before .before .before .expr-head .ensures)
 
 read-expr-sub-read-expr : (t : ℕ) → read-expr-lts.Need-sub-read-expr (
   expr-head-reads.Asked,
@@ -143,12 +147,13 @@ read-expr-read-expr-requires : (t : ℕ) → read-expr-lts.Need-read-expr-requir
   join-reads.Learnt,
 ) (read-expr-at t) read-expr.Post read-expr-Inv-loop read-expr-μ-loop
 read-expr-read-expr-requires t c κs =
-    let i : c .before .before .before .loop .whole .used ≤ length (c .before .before .before .before .before .before .before .before .before .args .part .now) = c .before .before .before .loop .inv .inside in
-    let d : 0 < c .before .before .before .before .before .before .before .before .before .args .depth = c .before .before .before .loop .inv .deep in
-    let m : c .before .before .before .before .before .before .before .before .before .args .depth ≡ t = c .before .before .before .before .before .before .before .before .before .pre .0 in
-    let q : c .before .before .before .before .before .before .before .before .before .args .at + length (c .before .before .before .before .before .before .before .before .before .args .part .now) < 18446744073709551616 = c .before .before .before .before .before .before .before .before .before .pre .1 in
-    let l : length (take (length (c .before .before .before .before .before .before .before .before .before .args .part .now) - c .before .before .before .loop .whole .used) (drop (c .before .before .before .loop .whole .used) (c .before .before .before .before .before .before .before .before .before .args .part .now))) ≡ length (c .before .before .before .before .before .before .before .before .before .args .part .now) - c .before .before .before .loop .whole .used = ap length (part-rest (c .before .before .before .before .before .before .before .before .before .args .part .now) (c .before .before .before .loop .whole .used)) ∙ length-drop (c .before .before .before .loop .whole .used) (c .before .before .before .before .before .before .before .before .before .args .part .now) in
-    (omega (arith, m, d), rw l (omega (arith, i, q)))
+    let a = c .before .before .before .before .before .before .before .before .before .before .before .args in
+    let bs = a .part .now in
+    let u = c .before .before .before .before .loop .whole .used in
+    let m : a .depth ≡ t = c .before .before .before .before .before .before .before .before .before .before .before .pre .0 in
+    let r : a .at + length bs < 18446744073709551616 = c .before .before .before .before .before .before .before .before .before .before .before .pre .1 .0 in
+    let l : length (take (length bs - u) (drop u bs)) ≡ length bs - u = part-length bs u in
+    (omega (arith, m, c .before .before .before .before .loop .inv .deep), (rw l (omega (arith, c .before .before .before .before .loop .inv .inside, r)), c .before .before .before .before .before .before .before .before .before .before .before .pre .1 .1))
 
 read-expr-enum-known-operand : (t : ℕ) → read-expr-lts.Need-enum-known-operand (
   expr-head-reads.Asked,
@@ -179,8 +184,11 @@ read-expr-returns-2 : (t : ℕ) → read-expr-lts.Need-returns-2 (
   join-reads.Learnt,
 ) (read-expr-at t) read-expr.Post read-expr-Inv-loop read-expr-μ-loop
 read-expr-returns-2 t c =
-    let e = c .before .before .read-expr .ensures ∙ ap (λ bs. shape (c .before .before .before .before .before .before .before .before .before .before .before .before .args .bad) (c .before .before .before .before .before .before .before .before .before .before .before .before .args .limit) (c .before .before .before .before .before .before .before .before .before .before .before .before .args .at + c .before .before .before .before .before .before .loop .whole .used) (readExpr (c .before .before .before .before .before .before .before .before .before .before .before .before .args .depth - 1) (c .before .before .before .before .before .before .loop .whole .left) (c .before .before .before .before .before .before .before .before .before .before .before .before .args .at + c .before .before .before .before .before .before .loop .whole .used) bs)) (part-rest (c .before .before .before .before .before .before .before .before .before .before .before .before .args .part .now) (c .before .before .before .before .before .before .loop .whole .used)) in
-    c .enum-told2 .given .1 ∙ refused-operand (c .before .before .before .before .before .before .before .before .before .before .before .before .args .bad) (c .before .before .before .before .before .before .before .before .before .before .before .before .args .limit) (c .before .before .before .before .before .before .before .before .before .before .before .before .args .depth) (c .before .before .before .before .before .before .before .before .before .before .before .before .args .left) (c .before .before .before .before .before .before .before .before .before .before .before .before .args .at) (c .before .before .before .before .before .before .before .before .before .before .before .before .args .part .now) (c .before .before .before .before .before .before .loop .whole) _ (c .before .before .before .before .before .before .loop .inv) (c .before .before .before .before .if1 .taken) (sym (c .enum-told2 .given .1) ∙ e)
+    let a = c .before .before .before .before .before .before .before .before .before .before .before .before .before .before .args in
+    let bs = a .part .now in
+    let p = c .before .before .before .before .before .before .before .loop .whole in
+    let places = c .before .before .before .before .before .before .before .loop .places in
+    refused-operand (a .state) (a .own) (a .depth) (a .at) bs _ p places _ _ _ (c .before .before .before .before .before .before .before .loop .inv) (c .before .before .before .before .before .if1 .taken) (c .enum-told2 .given .1) (c .before .before .read-expr .ensures) ∙ taken-head (a .state) (a .own) (a .depth) (a .left) (a .at) bs (a .places .now) _ _ _ (c .before .before .before .before .before .before .before .before .before .head .given .1) (c .before .before .before .before .before .before .before .before .before .before .before .expr-head .ensures)
 
 read-expr-join-requires : (t : ℕ) → read-expr-lts.Need-join-requires (
   expr-head-reads.Asked,
@@ -191,10 +199,13 @@ read-expr-join-requires : (t : ℕ) → read-expr-lts.Need-join-requires (
   join-reads.Learnt,
 ) (read-expr-at t) read-expr.Post read-expr-Inv-loop read-expr-μ-loop
 read-expr-join-requires t c κs =
-    let e = c .before .before .before .read-expr .ensures ∙ ap (λ bs. shape (c .before .before .before .before .before .before .before .before .before .before .before .before .before .args .bad) (c .before .before .before .before .before .before .before .before .before .before .before .before .before .args .limit) (c .before .before .before .before .before .before .before .before .before .before .before .before .before .args .at + c .before .before .before .before .before .before .before .loop .whole .used) (readExpr (c .before .before .before .before .before .before .before .before .before .before .before .before .before .args .depth - 1) (c .before .before .before .before .before .before .before .loop .whole .left) (c .before .before .before .before .before .before .before .before .before .before .before .before .before .args .at + c .before .before .before .before .before .before .before .loop .whole .used) bs)) (part-rest (c .before .before .before .before .before .before .before .before .before .before .before .before .before .args .part .now) (c .before .before .before .before .before .before .before .loop .whole .used)) in
-    let w = with-operand (c .before .before .before .before .before .before .before .before .before .before .before .before .before .args .bad) (c .before .before .before .before .before .before .before .before .before .before .before .before .before .args .limit) (c .before .before .before .before .before .before .before .before .before .before .before .before .before .args .depth) (c .before .before .before .before .before .before .before .before .before .before .before .before .before .args .left) (c .before .before .before .before .before .before .before .before .before .before .before .before .before .args .at) (c .before .before .before .before .before .before .before .before .before .before .before .before .before .args .part .now) (c .before .before .before .before .before .before .before .loop .whole) (c .before .operand .given .0 .0) (c .before .before .before .before .before .before .before .loop .inv) (c .before .before .before .before .before .if1 .taken) (sym (c .before .operand .given .1) ∙ e) in
-    let g : length (c .before .before .before .before .before .before .before .before .before .before .before .before .before .args .part .now) < 18446744073709551616 = c .before .before .before .before .before .before .before .before .before .before .before .before .before .good .0 .0 in
-    (omega (arith, w .0, g), c .before .before .before .before .before .if1 .taken)
+    let a = c .before .before .before .before .before .before .before .before .before .before .before .before .before .before .before .args in
+    let bs = a .part .now in
+    let p = c .before .before .before .before .before .before .before .before .loop .whole in
+    let places = c .before .before .before .before .before .before .before .before .loop .places in
+    let w = operand-within (a .state) (a .own) (a .depth) (a .at) bs p places _ _ _ (c .before .before .before .before .before .before .before .before .loop .inv .inside) (c .before .operand .given .1) (c .before .before .before .read-expr .ensures) in
+    let g : length bs < 18446744073709551616 = c .before .before .before .before .before .before .before .before .before .before .before .before .before .before .before .good .0 .0 in
+    (omega (arith, w, g), c .before .before .before .before .before .before .if1 .taken)
 
 read-expr-loop-less : (t : ℕ) → read-expr-lts.Need-loop-less (
   expr-head-reads.Asked,
@@ -206,8 +217,9 @@ read-expr-loop-less : (t : ℕ) → read-expr-lts.Need-loop-less (
 ) (read-expr-at t) read-expr.Post read-expr-Inv-loop read-expr-μ-loop
 unfolding joined
 read-expr-loop-less t c =
-    let e : c .join .result .operands ≡ c .before .before .before .before .before .before .before .before .loop .whole .operands - 1 = ap (λ p. p .operands) (c .join .ensures) in
-    let h : 0 < c .before .before .before .before .before .before .before .before .loop .whole .operands = c .before .before .before .before .before .before .if1 .taken in
+    let p = c .before .before .before .before .before .before .before .before .before .loop .whole in
+    let e : c .join .result .operands ≡ p .operands - 1 = ap (λ r. r .operands) (c .join .ensures) in
+    let h : 0 < p .operands = c .before .before .before .before .before .before .before .if1 .taken in
     omega (arith, e, h)
 
 read-expr-loop-again : (t : ℕ) → read-expr-lts.Need-loop-again (
@@ -219,8 +231,11 @@ read-expr-loop-again : (t : ℕ) → read-expr-lts.Need-loop-again (
   join-reads.Learnt,
 ) (read-expr-at t) read-expr.Post read-expr-Inv-loop read-expr-μ-loop
 read-expr-loop-again t c =
-    let e = c .before .before .before .before .read-expr .ensures ∙ ap (λ bs. shape (c .before .before .before .before .before .before .before .before .before .before .before .before .before .before .args .bad) (c .before .before .before .before .before .before .before .before .before .before .before .before .before .before .args .limit) (c .before .before .before .before .before .before .before .before .before .before .before .before .before .before .args .at + c .before .before .before .before .before .before .before .before .loop .whole .used) (readExpr (c .before .before .before .before .before .before .before .before .before .before .before .before .before .before .args .depth - 1) (c .before .before .before .before .before .before .before .before .loop .whole .left) (c .before .before .before .before .before .before .before .before .before .before .before .before .before .before .args .at + c .before .before .before .before .before .before .before .before .loop .whole .used) bs)) (part-rest (c .before .before .before .before .before .before .before .before .before .before .before .before .before .before .args .part .now) (c .before .before .before .before .before .before .before .before .loop .whole .used)) in
-    subst (Going (c .before .before .before .before .before .before .before .before .before .before .before .before .before .before .args .bad) (c .before .before .before .before .before .before .before .before .before .before .before .before .before .before .args .limit) (c .before .before .before .before .before .before .before .before .before .before .before .before .before .before .args .depth) (c .before .before .before .before .before .before .before .before .before .before .before .before .before .before .args .left) (c .before .before .before .before .before .before .before .before .before .before .before .before .before .before .args .at) (c .before .before .before .before .before .before .before .before .before .before .before .before .before .before .args .part .now)) (sym (c .join .ensures)) ((with-operand (c .before .before .before .before .before .before .before .before .before .before .before .before .before .before .args .bad) (c .before .before .before .before .before .before .before .before .before .before .before .before .before .before .args .limit) (c .before .before .before .before .before .before .before .before .before .before .before .before .before .before .args .depth) (c .before .before .before .before .before .before .before .before .before .before .before .before .before .before .args .left) (c .before .before .before .before .before .before .before .before .before .before .before .before .before .before .args .at) (c .before .before .before .before .before .before .before .before .before .before .before .before .before .before .args .part .now) (c .before .before .before .before .before .before .before .before .loop .whole) (c .before .before .operand .given .0 .0) (c .before .before .before .before .before .before .before .before .loop .inv) (c .before .before .before .before .before .before .if1 .taken) (sym (c .before .before .operand .given .1) ∙ e)) .1)
+    let a = c .before .before .before .before .before .before .before .before .before .before .before .before .before .before .before .before .args in
+    let bs = a .part .now in
+    let p = c .before .before .before .before .before .before .before .before .before .loop .whole in
+    let places = c .before .before .before .before .before .before .before .before .before .loop .places in
+    with-operand (a .state) (a .own) (a .depth) (a .at) bs _ p places _ _ _ _ (c .before .before .before .before .before .before .before .before .before .loop .inv) (c .before .before .before .before .before .before .before .if1 .taken) (c .before .before .operand .given .1) (c .before .before .before .before .read-expr .ensures) (c .join .ensures)
 
 read-expr-returns-3 : (t : ℕ) → read-expr-lts.Need-returns-3 (
   expr-head-reads.Asked,
@@ -230,7 +245,12 @@ read-expr-returns-3 : (t : ℕ) → read-expr-lts.Need-returns-3 (
   join-reads.Asked,
   join-reads.Learnt,
 ) (read-expr-at t) read-expr.Post read-expr-Inv-loop read-expr-μ-loop
-read-expr-returns-3 t c = ended (c .before .before .before .before .before .before .before .before .args .bad) (c .before .before .before .before .before .before .before .before .args .limit) (c .before .before .before .before .before .before .before .before .args .depth) (c .before .before .before .before .before .before .before .before .args .left) (c .before .before .before .before .before .before .before .before .args .at) (c .before .before .before .before .before .before .before .before .args .part .now) (c .before .before .loop .whole) (c .before .before .loop .inv) (omega (arith, c .if1 .left))
+read-expr-returns-3 t c =
+    let a = c .before .before .before .before .before .before .before .before .before .args in
+    let bs = a .part .now in
+    let p = c .before .before .loop .whole in
+    let places = c .before .before .loop .places in
+    ended (a .state) (a .own) (a .depth) (a .at) bs _ p places (c .before .before .loop .inv) (omega (arith, c .if1 .left)) ∙ taken-head (a .state) (a .own) (a .depth) (a .left) (a .at) bs (a .places .now) _ _ _ (c .before .before .before .before .head .given .1) (c .before .before .before .before .before .before .expr-head .ensures)
 
 pub +read-expr-spec : {M : Type 1} → statement M
 +read-expr-spec = close μ-read-expr λ t. read-expr-lts.spec (

@@ -1,4 +1,4 @@
--- `formula::advance` meets its contract: each case is its line.
+-- `formula_reader::advance` meets its contract: each case is its line.
 use borrow.Author.Needs.{needs}
 use Rattle.formula_reader.proofs.advance.Statement.{statement}
 use Rattle.formula_reader.proofs.advance.Tie as tie
@@ -15,14 +15,14 @@ add-n c = search needs
 enum-known-c-2 : tie.Need-enum-known-c-2
 enum-known-c-2 c = search needs
 
-add-t12 : tie.Need-add-t12
-add-t12 c = search needs
+add-t10 : tie.Need-add-t10
+add-t10 c = search needs
 
 enum-known-c-3 : tie.Need-enum-known-c-3
 enum-known-c-3 c = search needs
 
-add-t14 : tie.Need-add-t14
-add-t14 c = search needs
+add-t12 : tie.Need-add-t12
+add-t12 c = search needs
 
 enum-told : tie.Need-enum-told
 enum-told c = search needs
@@ -42,8 +42,8 @@ enum-known-c-5 c = search needs
 one-clause-more-requires-3 : tie.Need-one-clause-more-requires-3
 one-clause-more-requires-3 c κs = search needs
 
-enum-known-c-6 : tie.Need-enum-known-c-6
-enum-known-c-6 c = search needs
+enum-told-2 : tie.Need-enum-told-2
+enum-told-2 c = search needs
 
 returns : tie.Need-returns
 returns c = rw (c .before .before .c .given .1)
@@ -64,7 +64,7 @@ returns-6 : tie.Need-returns-6
 returns-6 c = rw (c .before .before .c5 .given .1) (c .one-clause-more3 .ensures)
 
 returns-7 : tie.Need-returns-7
-returns-7 c = rw (c .before .c6 .given .1)
+returns-7 c = rw (c .enum-told2 .given .1)
 
 pub advance-spec : {M : Type 1} → statement M
 advance-spec =
@@ -73,16 +73,16 @@ advance-spec =
     enum-known-c
     add-n
     enum-known-c-2
-    add-t12
+    add-t10
     enum-known-c-3
-    add-t14
+    add-t12
     enum-told
     one-clause-more-requires
     enum-known-c-4
     one-clause-more-requires-2
     enum-known-c-5
     one-clause-more-requires-3
-    enum-known-c-6
+    enum-told-2
     returns
     returns-2
     returns-3

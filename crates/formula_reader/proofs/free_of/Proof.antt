@@ -1,10 +1,10 @@
--- `formula::free_of` meets its contract: the variables stored so far.
-use borrow.Author.Needs.{needs}
-use Rattle.formula_reader.proofs.CodeReach.{round-on, round-done, reach-on, reach-done, stored-none, stored-on, FreeBelow, below-none, below-on, below-all}
-use Rattle.formula_reader.specs.Reach.{markBy, roundFrom, reachFrom, reachOf, Stored, Free}
+-- `formula_reader::free_of` meets its contract: the variables stored so far.
+use Prim.Native.Nat.{_<_, _≤_, _-_}
 use native.Mathlib.Omega.{arith}
-use Prim.Native.Nat.{_<_, _≤_, _+_, _*_, _-_}
-use mathlib.Core.Path.{_≡_, refl, sym, subst, _∙_, ap}
+use denote.Ref.{now}
+use Rattle.formula_reader.specs.Reach.{edges}
+use Rattle.formula_reader.proofs.CodeReach.{FreeBelow, below-none, below-on, below-all}
+use borrow.Author.Needs.{needs}
 use Rattle.formula_reader.proofs.free_of.Statement.{statement}
 use Rattle.formula_reader.proofs.free_of.Tie as tie
 use Rattle.formula_reader.proofs.free_of.Reads as reads
@@ -13,13 +13,13 @@ use Rattle.formula_reader.proofs.reach.Reads as reach-reads
 use Rattle.formula_reader.proofs.store_marks.Reads as store-marks-reads
 
 abbrev Inv-loop : tie.InvT-loop
-Inv-loop g free₀ v₀ free v = (v ≤ 8) × FreeBelow g v free
+Inv-loop count from to bound free₀ v₀ free v = (v ≤ 8) × FreeBelow (edges count from to bound) v free
 
 abbrev μ-loop : tie.MeasureT-loop
-μ-loop g free₀ v₀ free v = 8 - v
+μ-loop count from to bound free₀ v₀ free v = 8 - v
 
 loop-holds : tie.Need-loop-holds Inv-loop μ-loop
-loop-holds c = (omega arith, below-none (c .args .g) _)
+loop-holds c = (omega arith, below-none (edges (c .args .count) (now (c .args .from)) (now (c .args .to)) (now (c .args .bound))) _)
 
 reach-requires : tie.Need-reach-requires Inv-loop μ-loop
 reach-requires c κs = search needs
@@ -36,10 +36,10 @@ loop-less c = search needs
 loop-again : tie.Need-loop-again Inv-loop μ-loop
 loop-again c =
     let h : c .before .before .before .loop .v < 8 = c .before .before .loop-test .taken in
-    (omega (arith, h), below-on (c .before .before .before .before .args .g) (c .before .before .before .loop .v) (c .before .before .before .loop .free) (c .store-marks .result) (c .before .before .before .loop .inv .1) (subst (λ m. Stored (c .before .before .before .loop .free) (c .before .before .before .loop .v) m 16 (c .store-marks .result)) (c .before .reach .ensures) (c .store-marks .ensures)))
+    (omega (arith, h), below-on (edges (c .before .before .before .before .args .count) (now (c .before .before .before .before .args .from)) (now (c .before .before .before .before .args .to)) (now (c .before .before .before .before .args .bound))) (c .before .before .before .loop .v) (c .before .before .before .loop .free) _ (c .store-marks .result) (c .before .before .before .loop .inv .1) (c .before .reach .ensures) (c .store-marks .ensures))
 
 returns : tie.Need-returns Inv-loop μ-loop
-returns c = below-all (c .before .before .args .g) (c .before .loop .v) (c .before .loop .free) (c .loop-test .left) (c .before .loop .inv .1)
+returns c = below-all (edges (c .before .before .args .count) (now (c .before .before .args .from)) (now (c .before .before .args .to)) (now (c .before .before .args .bound))) (c .before .loop .v) (c .before .loop .free) (c .loop-test .left) (c .before .loop .inv .1)
 
 pub free-of-spec : {M : Type 1} → statement M
 free-of-spec =

@@ -1,6 +1,7 @@
--- `formula::judge_with` meets its contract: the tests on the way are the definition's, in its order.
-use borrow.Author.Tests.{lt-ltb, le-ltb, le-leb, lt-leb, eq-eqb, ne-eqb}
-use Rattle.formula_reader.specs.Answer.{answerOf, judgedWith}
+-- `formula_reader::judge_with` meets its contract: the tests on the way are the definition's, in its order.
+use Rattle.formula_reader.specs.Answer.{judgedWith}
+use Rattle.formula_reader.specs.Places.{nowhere}
+use borrow.Author.Tests.{lt-ltb, le-ltb}
 use borrow.Author.Needs.{needs}
 use Rattle.formula_reader.proofs.judge_with.Statement.{statement}
 use Rattle.formula_reader.proofs.judge_with.Tie as tie
@@ -13,8 +14,8 @@ refused-with-requires : tie.Need-refused-with-requires
 refused-with-requires c κs = search needs
 
 returns : tie.Need-returns
-unfolding judgedWith
-returns c = rw (c .before .if1 .taken) (c .refused-with .ensures)
+unfolding judgedWith nowhere
+returns c = rw (lt-ltb _ _ (c .before .if1 .taken)) (c .refused-with .ensures)
 
 element-copy-out-if2 : tie.Need-element-copy-out-if2
 element-copy-out-if2 c = search needs
@@ -23,22 +24,22 @@ refused-with-requires-2 : tie.Need-refused-with-requires-2
 refused-with-requires-2 c κs = search needs
 
 returns-2 : tie.Need-returns-2
-unfolding judgedWith
-returns-2 c = rw (c .before .before .before .if1 .left, lt-ltb _ _ (c .before .if2 .taken)) (c .refused-with2 .ensures)
+unfolding judgedWith nowhere
+returns-2 c = rw (le-ltb _ _ (c .before .before .before .if1 .left), lt-ltb _ _ (c .before .if2 .taken)) (c .refused-with2 .ensures)
 
 refused-with-requires-3 : tie.Need-refused-with-requires-3
 refused-with-requires-3 c κs = search needs
 
 returns-3 : tie.Need-returns-3
-unfolding judgedWith
-returns-3 c = rw (c .before .before .before .before .if1 .left, le-ltb _ _ (c .before .before .if2 .left), c .before .if3 .taken) (c .refused-with3 .ensures)
+unfolding judgedWith nowhere
+returns-3 c = rw (le-ltb _ _ (c .before .before .before .before .if1 .left), le-ltb _ _ (c .before .before .if2 .left), lt-ltb _ _ (c .before .if3 .taken)) (c .refused-with3 .ensures)
 
 accepted-with-requires : tie.Need-accepted-with-requires
 accepted-with-requires c κs = search needs
 
 returns-4 : tie.Need-returns-4
-unfolding judgedWith
-returns-4 c = rw (c .before .before .before .before .if1 .left, le-ltb _ _ (c .before .before .if2 .left), c .before .if3 .left) (c .accepted-with .ensures)
+unfolding judgedWith nowhere
+returns-4 c = rw (le-ltb _ _ (c .before .before .before .before .if1 .left), le-ltb _ _ (c .before .before .if2 .left), le-ltb _ _ (c .before .if3 .left)) (c .accepted-with .ensures)
 
 pub judge-with-spec : {M : Type 1} → statement M
 judge-with-spec =

@@ -1,6 +1,5 @@
--- `formula::mark_step` meets its contract: by the test.
-use Rattle.formula_reader.specs.Reach.{markBy, roundFrom, reachFrom, reachOf, Stored, Free}
-use mathlib.Core.Path.{_≡_, refl, sym, subst, _∙_, ap}
+-- `formula_reader::mark_step` meets its contract: by the test.
+use Rattle.formula_reader.specs.Reach.{markBy}
 use borrow.Author.Needs.{needs}
 use Rattle.formula_reader.proofs.mark_step.Statement.{statement}
 use Rattle.formula_reader.proofs.mark_step.Tie as tie

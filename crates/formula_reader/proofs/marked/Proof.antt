@@ -1,8 +1,8 @@
--- `formula::marked` meets its contract: past the end nothing is marked.
-use mathlib.Core.Bool.{true, false}
+-- `formula_reader::marked` meets its contract: past the end nothing is marked.
+use mathlib.Core.Bool.{false}
 use native.Mathlib.Omega.{arith}
-use lib.ListN.{length, getD, set, List·getD-eq-default}
-use mathlib.Core.Path.{_≡_, refl, sym, subst, _∙_, ap}
+use lib.ListN.{length, List·getD-eq-default}
+use mathlib.Core.Path.{_≡_, sym}
 use borrow.Author.Needs.{needs}
 use Rattle.formula_reader.proofs.marked.Statement.{statement}
 use Rattle.formula_reader.proofs.marked.Tie as tie

@@ -1,15 +1,13 @@
--- `formula::next_command` meets its contract: the tests on the way are the definition's, in its order.
-use borrow.Author.Tests.{not-true, not-false}
-use Rattle.formula_reader.proofs.CodeNext.{next-is}
+-- `formula_reader::next_command` meets its contract: the tests on the way are the definition's, in its order.
 use Rattle.formula_reader.specs.Take.{nextAt}
-use mathlib.Core.Path.{_≡_, sym, _∙_, ap}
-use Rattle.formula_reader.specs.Take.{operandsAt, stateAt, stepAt, tiedAt, testAt, testvAt, bindAt, guardAt, nextAt}
-use borrow.Author.Tests.{lt-ltb, le-ltb, le-leb, lt-leb, eq-eqb, ne-eqb}
+use Rattle.formula_reader.proofs.CodeNext.{next-is}
+use borrow.Author.Tests.{eq-eqb, ne-eqb, not-true, not-false}
 use borrow.Author.Needs.{needs}
 use Rattle.formula_reader.proofs.next_command.Statement.{statement}
 use Rattle.formula_reader.proofs.next_command.Tie as tie
 use Rattle.formula_reader.proofs.next_command.Reads as reads
 use Rattle.formula_reader.proofs.next_command.Lts as lts
+use Rattle.formula_reader.proofs.before.Reads as before-reads
 use Rattle.formula_reader.proofs.has_room.Reads as has-room-reads
 use Rattle.formula_reader.proofs.is_allowed.Reads as is-allowed-reads
 use Rattle.formula_reader.proofs.opcode_of.Reads as opcode-of-reads
@@ -17,7 +15,7 @@ use Rattle.formula_reader.proofs.take_command.Reads as take-command-rea
 
 returns : tie.Need-returns
 unfolding nextAt
-returns c = rw (next-is (c .before .before .args .marks) (c .before .before .args .limit) (c .before .before .args .at) (c .before .before .args .fields) (c .before .before .args .s) (c .before .before .args .part .now), eq-eqb _ _ (c .if1 .taken))
+returns c = rw (next-is (c .before .before .args .own) (c .before .before .args .at) (c .before .before .args .places .now) (c .before .before .args .fields) (c .before .before .args .s) (c .before .before .args .part .now), eq-eqb _ _ (c .if1 .taken))
 
 shared-slice-read-opcode-of : tie.Need-shared-slice-read-opcode-of
 shared-slice-read-opcode-of c = search needs
@@ -30,21 +28,24 @@ is-allowed-requires c κs = search needs
 
 returns-2 : tie.Need-returns-2
 unfolding nextAt
-returns-2 c = rw (next-is (c .before .before .before .before .before .before .args .marks) (c .before .before .before .before .before .before .args .limit) (c .before .before .before .before .before .before .args .at) (c .before .before .before .before .before .before .args .fields) (c .before .before .before .before .before .before .args .s) (c .before .before .before .before .before .before .args .part .now), ne-eqb _ _ (c .before .before .before .before .if1 .left), ← (c .before .before .opcode-of .ensures), ← (c .before .is-allowed .ensures), not-true (c .before .is-allowed .result) (c .if2 .taken))
+returns-2 c = rw (next-is (c .before .before .before .before .before .before .args .own) (c .before .before .before .before .before .before .args .at) (c .before .before .before .before .before .before .args .places .now) (c .before .before .before .before .before .before .args .fields) (c .before .before .before .before .before .before .args .s) (c .before .before .before .before .before .before .args .part .now), ne-eqb _ _ (c .before .before .before .before .if1 .left), ← (c .before .before .opcode-of .ensures), ← (c .before .is-allowed .ensures), not-true (c .before .is-allowed .result) (c .if2 .taken))
 
 has-room-requires : tie.Need-has-room-requires
 has-room-requires c κs = search needs
 
 returns-3 : tie.Need-returns-3
 unfolding nextAt
-returns-3 c = rw (next-is (c .before .before .before .before .before .before .before .before .args .marks) (c .before .before .before .before .before .before .before .before .args .limit) (c .before .before .before .before .before .before .before .before .args .at) (c .before .before .before .before .before .before .before .before .args .fields) (c .before .before .before .before .before .before .before .before .args .s) (c .before .before .before .before .before .before .before .before .args .part .now), ne-eqb _ _ (c .before .before .before .before .before .before .if1 .left), ← (c .before .before .before .before .opcode-of .ensures), ← (c .before .before .before .is-allowed .ensures), not-false (c .before .before .before .is-allowed .result) (c .before .before .if2 .left), ← (c .before .has-room .ensures), not-true (c .before .has-room .result) (c .if3 .taken))
+returns-3 c = rw (next-is (c .before .before .before .before .before .before .before .before .args .own) (c .before .before .before .before .before .before .before .before .args .at) (c .before .before .before .before .before .before .before .before .args .places .now) (c .before .before .before .before .before .before .before .before .args .fields) (c .before .before .before .before .before .before .before .before .args .s) (c .before .before .before .before .before .before .before .before .args .part .now), ne-eqb _ _ (c .before .before .before .before .before .before .if1 .left), ← (c .before .before .before .before .opcode-of .ensures), ← (c .before .before .before .is-allowed .ensures), not-false (c .before .before .before .is-allowed .result) (c .before .before .if2 .left), ← (c .before .has-room .ensures), not-true (c .before .has-room .result) (c .if3 .taken))
+
+before-requires : tie.Need-before-requires
+before-requires c κs = search needs
 
 take-command-requires : tie.Need-take-command-requires
 take-command-requires c κs = search needs
 
 returns-4 : tie.Need-returns-4
 unfolding nextAt
-returns-4 c = rw (next-is (c .before .before .before .before .before .before .before .before .before .args .marks) (c .before .before .before .before .before .before .before .before .before .args .limit) (c .before .before .before .before .before .before .before .before .before .args .at) (c .before .before .before .before .before .before .before .before .before .args .fields) (c .before .before .before .before .before .before .before .before .before .args .s) (c .before .before .before .before .before .before .before .before .before .args .part .now), ne-eqb _ _ (c .before .before .before .before .before .before .before .if1 .left), ← (c .before .before .before .before .before .opcode-of .ensures), ← (c .before .before .before .before .is-allowed .ensures), not-false (c .before .before .before .before .is-allowed .result) (c .before .before .before .if2 .left), ← (c .before .before .has-room .ensures), not-false (c .before .before .has-room .result) (c .before .if3 .left)) (c .take-command .ensures)
+returns-4 c = rw (next-is (c .before .before .before .before .before .before .before .before .before .before .before .args .own) (c .before .before .before .before .before .before .before .before .before .before .before .args .at) (c .before .before .before .before .before .before .before .before .before .before .before .args .places .now) (c .before .before .before .before .before .before .before .before .before .before .before .args .fields) (c .before .before .before .before .before .before .before .before .before .before .before .args .s) (c .before .before .before .before .before .before .before .before .before .before .before .args .part .now), ne-eqb _ _ (c .before .before .before .before .before .before .before .before .before .if1 .left), ← (c .before .before .before .before .before .before .before .opcode-of .ensures), ← (c .before .before .before .before .before .before .is-allowed .ensures), not-false (c .before .before .before .before .before .before .is-allowed .result) (c .before .before .before .before .before .if2 .left), ← (c .before .before .before .before .has-room .ensures), not-false (c .before .before .before .before .has-room .result) (c .before .before .before .if3 .left), ← (c .before .before .before2 .ensures)) (c .take-command .ensures)
 
 pub next-command-spec : {M : Type 1} → statement M
 next-command-spec =
@@ -57,5 +58,6 @@ next-command-spec =
     returns-2
     has-room-requires
     returns-3
+    before-requires
     take-command-requires
     returns-4)

@@ -1,32 +1,40 @@
--- `formula::reach` meets its contract: what is left of the rounds, from the marks so far.
-use borrow.Author.Needs.{needs}
-use Rattle.formula_reader.proofs.CodeReach.{round-on, round-done, reach-on, reach-done, stored-none, stored-on, FreeBelow, below-none, below-on, below-all}
-use Rattle.formula_reader.specs.Reach.{markBy, roundFrom, reachFrom, reachOf, Stored, Free}
+-- `formula_reader::reach` meets its contract: what is left of the rounds, from the marks so far; a round that adds nothing is the last.
+use Prim.Native.Nat.{_<_, _≤_, _-_}
+use mathlib.Core.Path.{_≡_, sym, ap}
 use native.Mathlib.Omega.{arith}
-use Prim.Native.Nat.{_<_, _≤_, _+_, _*_, _-_}
-use mathlib.Core.Path.{_≡_, refl, sym, subst, _∙_, ap}
+use denote.Ref.{now}
+use Rattle.formula_reader.specs.Reach.{edges, reachFrom, reachOf}
+use Rattle.formula_reader.proofs.CodeReach.{reach-on, reach-done, reach-still}
+use borrow.Author.Needs.{needs}
 use Rattle.formula_reader.proofs.reach.Statement.{statement}
 use Rattle.formula_reader.proofs.reach.Tie as tie
 use Rattle.formula_reader.proofs.reach.Reads as reads
 use Rattle.formula_reader.proofs.reach.Lts as lts
 use Rattle.formula_reader.proofs.round_of.Reads as round-of-reads
+use Rattle.formula_reader.proofs.same_marks.Reads as same-marks-reads
 use Rattle.formula_reader.proofs.with_mark.Reads as with-mark-reads
 
 abbrev Inv-loop : tie.InvT-loop
-Inv-loop g v marks₀ n₀ marks n = (n ≤ 16) × (reachOf g v ≡ reachFrom g v (16 - n) marks)
+Inv-loop count from to bound v marks₀ n₀ marks n = (n ≤ 16) × (reachOf (edges count from to bound) v ≡ reachFrom (edges count from to bound) v (16 - n) marks)
 
 abbrev μ-loop : tie.MeasureT-loop
-μ-loop g v marks₀ n₀ marks n = 16 - n
+μ-loop count from to bound v marks₀ n₀ marks n = 16 - n
 
 with-mark-requires : tie.Need-with-mark-requires Inv-loop μ-loop
 with-mark-requires c κs = search needs
 
 loop-holds : tie.Need-loop-holds Inv-loop μ-loop
 unfolding reachOf
-loop-holds c = (omega arith, ap (reachFrom (c .before .args .g) (c .before .args .v) 16) (sym (c .with-mark .ensures)))
+loop-holds c = (omega arith, ap (reachFrom (edges (c .before .args .count) (now (c .before .args .from)) (now (c .before .args .to)) (now (c .before .args .bound))) (c .before .args .v) 16) (sym (c .with-mark .ensures)))
 
 round-of-requires : tie.Need-round-of-requires Inv-loop μ-loop
 round-of-requires c κs = search needs
+
+same-marks-requires : tie.Need-same-marks-requires Inv-loop μ-loop
+same-marks-requires c κs = search needs
+
+returns : tie.Need-returns Inv-loop μ-loop
+returns c = reach-still (edges (c .before .before .before .before .before .before .args .count) (now (c .before .before .before .before .before .before .args .from)) (now (c .before .before .before .before .before .before .args .to)) (now (c .before .before .before .before .before .before .args .bound))) (c .before .before .before .before .before .before .args .v) (16 - c .before .before .before .before .loop .n) _ (c .before .before .before .before .loop .marks) _ (c .before .same-marks .ensures .0 (c .if1 .taken)) (c .before .before .round-of .ensures) (c .before .before .before .before .loop .inv .1)
 
 add-n : tie.Need-add-n Inv-loop μ-loop
 add-n c = search needs
@@ -36,13 +44,11 @@ loop-less c = search needs
 
 loop-again : tie.Need-loop-again Inv-loop μ-loop
 loop-again c =
-    let h : c .before .before .loop .n < 16 = omega (arith, c .before .loop-test .taken) in
-    (omega (arith, h), c .before .before .loop .inv .1 ∙ (reach-on (c .before .before .before .before .args .g) (c .before .before .before .before .args .v) (c .before .before .loop .n) (c .before .before .loop .marks) h ∙ ap (reachFrom (c .before .before .before .before .args .g) (c .before .before .before .before .args .v) (16 - (c .before .before .loop .n + 1))) (sym (c .round-of .ensures))))
+    let h : c .before .before .before .before .loop .n < 16 = omega (arith, c .before .before .before .loop-test .taken) in
+    (omega (arith, h), reach-on (edges (c .before .before .before .before .before .before .args .count) (now (c .before .before .before .before .before .before .args .from)) (now (c .before .before .before .before .before .before .args .to)) (now (c .before .before .before .before .before .before .args .bound))) (c .before .before .before .before .before .before .args .v) (c .before .before .before .before .loop .n) _ (c .before .before .before .before .loop .marks) _ h (c .before .before .round-of .ensures) (c .before .before .before .before .loop .inv .1))
 
-returns : tie.Need-returns Inv-loop μ-loop
-returns c =
-    let h : 16 ≤ c .before .loop .n = omega (arith, c .loop-test .left) in
-    sym (c .before .loop .inv .1 ∙ reach-done (c .before .before .before .args .g) (c .before .before .before .args .v) (c .before .loop .n) (c .before .loop .marks) h)
+returns-2 : tie.Need-returns-2 Inv-loop μ-loop
+returns-2 c = reach-done (edges (c .before .before .before .args .count) (now (c .before .before .before .args .from)) (now (c .before .before .before .args .to)) (now (c .before .before .before .args .bound))) (c .before .before .before .args .v) (c .before .loop .n) _ (c .before .loop .marks) (c .loop-test .left) (c .before .loop .inv .1)
 
 pub reach-spec : {M : Type 1} → statement M
 reach-spec =
@@ -53,7 +59,9 @@ reach-spec =
     with-mark-requires
     loop-holds
     round-of-requires
+    same-marks-requires
+    returns
     add-n
     loop-less
     loop-again
-    returns)
+    returns-2)

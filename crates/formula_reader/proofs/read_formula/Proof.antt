@@ -1,13 +1,11 @@
--- `formula::read_formula` meets its contract: a refused walk, bytes behind END, or what the second walk found is judged.
-use Rattle.formula_reader.proofs.CodeAnswer.{bytes-of, answer-refused, answer-leftover, answer-judged}
-use Rattle.formula_reader.specs.Answer.{answerOf, refusalIn}
-use Rattle.formula_reader.specs.Scan.{Scanned}
-use Rattle.formula.specs.Read.{refused}
-use lib.ListN.{getD, replicate}
-use mathlib.Core.Bool.{false}
-use native.Mathlib.Omega.{arith}
-use Prim.Native.Nat.{_<_, _≤_, _+_, _*_, _-_}
+-- `formula_reader::read_formula` meets its contract: a refused walk, bytes behind END, or what was gathered is judged.
 use mathlib.Core.Path.{_≡_, refl, sym, subst, _∙_, ap}
+use Prim.Native.Nat.{_<_, _≤_, _+_, _*_, _-_}
+use native.Mathlib.Omega.{arith}
+use Rattle.formula.specs.Read.{refused}
+use Rattle.formula_reader.specs.Scan.{Scanned}
+use Rattle.formula_reader.specs.Answer.{answerOf, refusalIn, judgedWith}
+use Rattle.formula_reader.proofs.CodeAnswer.{bytes-of, answer-refused, answer-leftover, answer-judged}
 use borrow.Author.Needs.{needs}
 use Rattle.formula_reader.proofs.read_formula.Statement.{statement}
 use Rattle.formula_reader.proofs.read_formula.Tie as tie
@@ -15,6 +13,7 @@ use Rattle.formula_reader.proofs.read_formula.Reads as reads
 use Rattle.formula_reader.proofs.read_formula.Lts as lts
 use Rattle.formula_reader.proofs.free_of.Reads as free-of-reads
 use Rattle.formula_reader.proofs.judge_with.Reads as judge-with-reads
+use Rattle.formula_reader.proofs.lowest_of.Reads as lowest-of-reads
 use Rattle.formula_reader.proofs.refusal_in.Reads as refusal-in-reads
 use Rattle.formula_reader.proofs.refused_with.Reads as refused-with-reads
 use Rattle.formula_reader.proofs.scan_file.Reads as scan-file-reads
@@ -37,8 +36,8 @@ refused-with-requires c κs = search needs
 returns : tie.Need-returns
 returns c = λ kinds e.
     let b = bytes-of (c .before .before .before .before .before .before .args .l .now) (λ i. omega (arith, c .before .before .before .before .before .shared-slice-known .given i)) in
-    let h = subst (λ n. Scanned n 0 (replicate 128 false) (c .before .before .before .before .before .before .args .l .now) (c .before .before .before .before .scan-file .result)) (sym e) (c .before .before .before .before .scan-file .ensures) in
-    c .refused-with .ensures ∙ ap (λ r. answerOf (refused r)) (c .before .refusal-in .ensures ∙ ap refusalIn (c .before .before .enum-told2 .given .1)) ∙ answer-refused kinds (c .before .before .before .before .before .before .args .l .now) b 0 (replicate 128 false) (c .before .before .before .before .scan-file .result) (c .before .before .enum-told2 .given .0 .0) h (c .before .before .enum-told2 .given .1)
+    let h = subst (λ n. Scanned n (c .before .before .before .before .before .before .args .l .now) (c .before .before .before .before .scan-file .result)) (sym e) (c .before .before .before .before .scan-file .ensures) in
+    c .refused-with .ensures ∙ ap (λ r. answerOf (refused r)) (c .before .refusal-in .ensures ∙ ap refusalIn (c .before .before .enum-told2 .given .1)) ∙ answer-refused kinds (c .before .before .before .before .before .before .args .l .now) b (c .before .before .before .before .scan-file .result) (c .before .before .enum-told2 .given .0 .0) h (c .before .before .enum-told2 .given .1)
 
 add-behind : tie.Need-add-behind
 add-behind c = search needs
@@ -49,24 +48,29 @@ refused-with-requires-2 c κs = search needs
 returns-2 : tie.Need-returns-2
 returns-2 c = λ kinds e.
     let b = bytes-of (c .before .before .before .before .before .before .before .before .args .l .now) (λ i. omega (arith, c .before .before .before .before .before .before .before .shared-slice-known .given i)) in
-    let h = subst (λ n. Scanned n 0 (replicate 128 false) (c .before .before .before .before .before .before .before .before .args .l .now) (c .before .before .before .before .before .before .scan-file .result)) (sym e) (c .before .before .before .before .before .before .scan-file .ensures) in
-    c .refused-with2 .ensures ∙ answer-leftover kinds (c .before .before .before .before .before .before .before .before .args .l .now) b 0 (replicate 128 false) (c .before .before .before .before .before .before .scan-file .result) h (c .before .before .before .before .enum-told .given .1) (c .before .if1 .taken)
+    let h = subst (λ n. Scanned n (c .before .before .before .before .before .before .before .before .args .l .now) (c .before .before .before .before .before .before .scan-file .result)) (sym e) (c .before .before .before .before .before .before .scan-file .ensures) in
+    c .refused-with2 .ensures ∙ answer-leftover kinds (c .before .before .before .before .before .before .before .before .args .l .now) b (c .before .before .before .before .before .before .scan-file .result) h (c .before .before .before .before .enum-told .given .1) (c .before .if1 .taken)
+
+add-lowest-of : tie.Need-add-lowest-of
+add-lowest-of c = search needs
+
+lowest-of-requires : tie.Need-lowest-of-requires
+lowest-of-requires c κs = search needs
 
 free-of-requires : tie.Need-free-of-requires
 free-of-requires c κs = search needs
 
-scan-file-requires-2 : tie.Need-scan-file-requires-2
-scan-file-requires-2 c κs = search needs
+lowest-of-requires-2 : tie.Need-lowest-of-requires-2
+lowest-of-requires-2 c κs = search needs
 
 judge-with-requires : tie.Need-judge-with-requires
 judge-with-requires c κs = search needs
 
 returns-3 : tie.Need-returns-3
 returns-3 c = λ kinds e.
-    let b = bytes-of (c .before .before .before .before .before .before .before .before .before .before .before .before .before .before .args .l .now) (λ i. omega (arith, c .before .before .before .before .before .before .before .before .before .before .before .before .before .shared-slice-known .given i)) in
-    let h = subst (λ n. Scanned n 0 (replicate 128 false) (c .before .before .before .before .before .before .before .before .before .before .before .before .before .before .args .l .now) (c .before .before .before .before .before .before .before .before .before .before .before .before .scan-file .result)) (sym e) (c .before .before .before .before .before .before .before .before .before .before .before .before .scan-file .ensures) in
-    let k = subst (λ n. Scanned n (c .before .before .before .before .before .before .before .before .before .before .before .before .scan-file .result .draft .summary .states) (c .before .before .before .before .free-of .result) (c .before .before .before .before .before .before .before .before .before .before .before .before .before .before .args .l .now) (c .before .before .before .scan-file2 .result)) (sym e) (c .before .before .before .scan-file2 .ensures) in
-    c .judge-with .ensures ∙ answer-judged kinds (c .before .before .before .before .before .before .before .before .before .before .before .before .before .before .args .l .now) b 0 (replicate 128 false) (c .before .before .before .before .before .before .before .before .before .before .before .before .scan-file .result) h (c .before .before .before .before .before .before .before .before .before .before .enum-told .given .1) (c .before .before .before .before .before .before .before .if1 .left) (c .before .before .before .before .free-of .result) (c .before .before .before .scan-file2 .result) (c .before .before .before .before .free-of .ensures) k
+    let b = bytes-of (c .before .before .before .before .before .before .before .before .before .before .before .before .before .before .before .before .before .before .before .before .before .before .args .l .now) (λ i. omega (arith, c .before .before .before .before .before .before .before .before .before .before .before .before .before .before .before .before .before .before .before .before .before .shared-slice-known .given i)) in
+    let h = subst (λ n. Scanned n (c .before .before .before .before .before .before .before .before .before .before .before .before .before .before .before .before .before .before .before .before .before .before .args .l .now) (c .before .before .before .before .before .before .before .before .before .before .before .before .before .before .before .before .before .before .before .before .scan-file .result)) (sym e) (c .before .before .before .before .before .before .before .before .before .before .before .before .before .before .before .before .before .before .before .before .scan-file .ensures) in
+    c .judge-with .ensures ∙ ap (λ n. judgedWith (c .before .before .before .before .before .before .before .before .before .before .before .before .before .before .before .before .before .before .before .before .scan-file .result .draft) n (c .before .lowest-of2 .result)) (c .before .before .before .before .before .before .before .lowest-of .ensures) ∙ ap (judgedWith (c .before .before .before .before .before .before .before .before .before .before .before .before .before .before .before .before .before .before .before .before .scan-file .result .draft) _) (c .before .lowest-of2 .ensures) ∙ answer-judged kinds (c .before .before .before .before .before .before .before .before .before .before .before .before .before .before .before .before .before .before .before .before .before .before .args .l .now) b (c .before .before .before .before .before .before .before .before .before .before .before .before .before .before .before .before .before .before .before .before .scan-file .result) h (c .before .before .before .before .before .before .before .before .before .before .before .before .before .before .before .before .before .before .enum-told .given .1) (c .before .before .before .before .before .before .before .before .before .before .before .before .before .before .before .before .before .before .before .before .before .before .good .0 .0) (c .before .before .before .before .before .before .before .before .before .before .before .before .before .before .before .if1 .left) (c .before .before .before .free-of .result) (c .before .before .before .free-of .ensures)
 
 pub read-formula-spec : {M : Type 1} → statement M
 read-formula-spec =
@@ -81,7 +85,9 @@ read-formula-spec =
     add-behind
     refused-with-requires-2
     returns-2
+    add-lowest-of
+    lowest-of-requires
     free-of-requires
-    scan-file-requires-2
+    lowest-of-requires-2
     judge-with-requires
     returns-3)

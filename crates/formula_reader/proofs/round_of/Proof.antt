@@ -1,10 +1,10 @@
--- `formula::round_of` meets its contract: what is left of the round, from the marks so far.
-use Rattle.formula_reader.proofs.CodeReach.{round-on, round-done, reach-on, reach-done, stored-none, stored-on, FreeBelow, below-none, below-on, below-all}
-use Rattle.formula_reader.specs.Reach.{markBy, roundFrom, reachFrom, reachOf, Stored, Free}
-use lib.ListN.{length, getD, set, List·getD-eq-default}
+-- `formula_reader::round_of` meets its contract: what is left of the round, from the marks so far.
+use Prim.Native.Nat.{_<_, _≤_, _-_}
+use mathlib.Core.Path.{_≡_}
 use native.Mathlib.Omega.{arith}
-use Prim.Native.Nat.{_<_, _≤_, _+_, _*_, _-_}
-use mathlib.Core.Path.{_≡_, refl, sym, subst, _∙_, ap}
+use denote.Ref.{now}
+use Rattle.formula_reader.specs.Reach.{edges, roundFrom}
+use Rattle.formula_reader.proofs.CodeReach.{round-on, round-done}
 use borrow.Author.Needs.{needs}
 use Rattle.formula_reader.proofs.round_of.Statement.{statement}
 use Rattle.formula_reader.proofs.round_of.Tie as tie
@@ -13,14 +13,14 @@ use Rattle.formula_reader.proofs.round_of.Lts as lts
 use Rattle.formula_reader.proofs.mark_step.Reads as mark-step-reads
 
 abbrev Inv-loop : tie.InvT-loop
-Inv-loop v g count marks₀ i₀ marks i = (i ≤ g .count) × (roundFrom g v 0 (g .count) marks₀ ≡ roundFrom g v i (g .count - i) marks)
+Inv-loop count from to bound v marks₀ i₀ marks i = (i ≤ count) × (roundFrom (edges count from to bound) v 0 count marks₀ ≡ roundFrom (edges count from to bound) v i (count - i) marks)
 
 abbrev μ-loop : tie.MeasureT-loop
-μ-loop v g count marks₀ i₀ marks i = g .count - i
+μ-loop count from to bound v marks₀ i₀ marks i = count - i
 
 loop-holds : tie.Need-loop-holds Inv-loop μ-loop
 loop-holds c =
-    let e : c .args .t1 .count - 0 ≡ c .args .t1 .count = omega arith in
+    let e : c .args .count - 0 ≡ c .args .count = omega arith in
     (omega arith, rw e)
 
 mul-mark-step : tie.Need-mul-mark-step Inv-loop μ-loop
@@ -55,11 +55,11 @@ loop-less c = search needs
 
 loop-again : tie.Need-loop-again Inv-loop μ-loop
 loop-again c =
-    let h : c .before .before .before .before .before .loop .i < c .before .before .before .before .before .before .args .t1 .count = c .before .before .before .before .loop-test .taken in
-    (omega (arith, h), c .before .before .before .before .before .loop .inv .1 ∙ (round-on (c .before .before .before .before .before .before .args .t1) (c .before .before .before .before .before .before .args .v) (c .before .before .before .before .before .loop .i) (c .before .before .before .before .before .loop .marks) h ∙ ap (roundFrom (c .before .before .before .before .before .before .args .t1) (c .before .before .before .before .before .before .args .v) (c .before .before .before .before .before .loop .i + 1) (c .before .before .before .before .before .before .args .t1 .count - (c .before .before .before .before .before .loop .i + 1))) (sym (c .mark-step .ensures))))
+    let h : c .before .before .before .before .before .loop .i < c .before .before .before .before .before .before .args .count = c .before .before .before .before .loop-test .taken in
+    (omega (arith, h), round-on (edges (c .before .before .before .before .before .before .args .count) (now (c .before .before .before .before .before .before .args .from)) (now (c .before .before .before .before .before .before .args .to)) (now (c .before .before .before .before .before .before .args .bound))) (c .before .before .before .before .before .before .args .v) (c .before .before .before .before .before .loop .i) _ (c .before .before .before .before .before .loop .marks) _ h (c .mark-step .ensures) (c .before .before .before .before .before .loop .inv .1))
 
 returns : tie.Need-returns Inv-loop μ-loop
-returns c = sym (c .before .loop .inv .1 ∙ round-done (c .before .before .args .t1) (c .before .before .args .v) (c .before .loop .i) (c .before .loop .marks) (c .loop-test .left))
+returns c = round-done (edges (c .before .before .args .count) (now (c .before .before .args .from)) (now (c .before .before .args .to)) (now (c .before .before .args .bound))) (c .before .before .args .v) (c .before .loop .i) _ (c .before .loop .marks) (c .loop-test .left) (c .before .loop .inv .1)
 
 pub round-of-spec : {M : Type 1} → statement M
 round-of-spec =

@@ -1,12 +1,11 @@
--- `formula::store_marks` meets its contract: the marks stored so far.
-use lib.ListN.{length-set}
+-- `formula_reader::store_marks` meets its contract: the marks stored so far.
 use mathlib.Core.Bool.{false}
-use Rattle.formula_reader.proofs.CodeReach.{round-on, round-done, reach-on, reach-done, stored-none, stored-on, FreeBelow, below-none, below-on, below-all}
-use Rattle.formula_reader.specs.Reach.{markBy, roundFrom, reachFrom, reachOf, Stored, Free}
-use lib.ListN.{length, getD, set, List·getD-eq-default}
+use Rattle.formula_reader.proofs.CodeReach.{stored-none, stored-on}
+use Rattle.formula_reader.specs.Reach.{Stored}
+use lib.ListN.{length, getD, length-set}
 use native.Mathlib.Omega.{arith}
 use Prim.Native.Nat.{_<_, _≤_, _+_, _*_, _-_}
-use mathlib.Core.Path.{_≡_, refl, sym, subst, _∙_, ap}
+use mathlib.Core.Path.{_≡_, subst, _∙_}
 use borrow.Author.Needs.{needs}
 use Rattle.formula_reader.proofs.store_marks.Statement.{statement}
 use Rattle.formula_reader.proofs.store_marks.Tie as tie

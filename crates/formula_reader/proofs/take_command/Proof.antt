@@ -1,4 +1,5 @@
 -- `formula_reader::take_command` meets its contract: each command is its line.
+use mathlib.Core.Path.{refl}
 use borrow.Author.Needs.{needs}
 use Rattle.formula_reader.proofs.take_command.Statement.{statement}
 use Rattle.formula_reader.proofs.take_command.Tie as tie
@@ -61,28 +62,28 @@ enum-told-9 : tie.Need-enum-told-9
 enum-told-9 c = search needs
 
 returns : tie.Need-returns
-returns c = search needs
+returns c = rw (c .enum-told .given .1)
 
 returns-2 : tie.Need-returns-2
-returns-2 c = rw (c .before .enum-told2 .given .1) (c .take-state .ensures)
+returns-2 c = rw (c .before .enum-told2 .given .1, c .take-state .ensures)
 
 returns-3 : tie.Need-returns-3
-returns-3 c = rw (c .before .enum-told3 .given .1) (c .take-step .ensures)
+returns-3 c = rw (c .before .enum-told3 .given .1, c .take-step .ensures)
 
 returns-4 : tie.Need-returns-4
-returns-4 c = rw (c .before .enum-told4 .given .1) (c .take-test .ensures)
+returns-4 c = rw (c .before .enum-told4 .given .1, c .take-test .ensures)
 
 returns-5 : tie.Need-returns-5
-returns-5 c = rw (c .before .enum-told5 .given .1) (c .take-testv .ensures)
+returns-5 c = rw (c .before .enum-told5 .given .1, c .take-testv .ensures)
 
 returns-6 : tie.Need-returns-6
-returns-6 c = rw (c .before .enum-told6 .given .1) (c .take-bind .ensures)
+returns-6 c = rw (c .before .enum-told6 .given .1, c .take-bind .ensures)
 
 returns-7 : tie.Need-returns-7
-returns-7 c = rw (c .before .enum-told7 .given .1) (c .take-guard .ensures)
+returns-7 c = rw (c .before .before .enum-told7 .given .1) (c .take-guard .ensures)
 
 returns-8 : tie.Need-returns-8
-returns-8 c = rw (c .before .enum-told8 .given .1) (c .take-tied .ensures)
+returns-8 c = rw (c .before .enum-told8 .given .1, c .take-tied .ensures)
 
 returns-9 : tie.Need-returns-9
 returns-9 c = rw (c .enum-told9 .given .1)

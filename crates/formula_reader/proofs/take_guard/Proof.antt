@@ -1,14 +1,12 @@
--- `formula::take_guard` meets its contract: the expression behind it.
-use Rattle.formula_reader.proofs.CodeGuard.{part-rest, taken-within}
-use Rattle.formula.specs.Read.{readExpr}
-use Rattle.formula_reader.specs.Prefix.{shape}
-use Rattle.formula_reader.specs.Take.{guardOf}
-use lib.ListN.{length, drop, length-drop}
-use native.Mathlib.Omega.{arith}
-use mathlib.Core.Path.{_≡_, sym, _∙_, ap}
+-- `formula_reader::take_guard` meets its contract: the expression behind it.
 use Prim.Native.Nat.{_<_, _≤_, _+_}
-use Rattle.formula_reader.specs.Take.{operandsAt, stateAt, stepAt, tiedAt, testAt, testvAt, bindAt, guardAt, nextAt}
-use borrow.Author.Tests.{lt-ltb, le-ltb, le-leb, lt-leb, eq-eqb, ne-eqb}
+use mathlib.Core.Path.{_≡_, sym, _∙_, ap}
+use native.Mathlib.Omega.{arith}
+use lib.ListN.{length, drop, length-drop}
+use Rattle.formula_reader.specs.Take.{guardOf, guardAt}
+use Rattle.formula_reader.specs.Prefix.{endOf, shape}
+use Rattle.formula.specs.Read.{readExpr}
+use Rattle.formula_reader.proofs.CodeGuard.{part-rest, taken-within}
 use borrow.Author.Needs.{needs}
 use Rattle.formula_reader.proofs.take_guard.Statement.{statement}
 use Rattle.formula_reader.proofs.take_guard.Tie as tie
@@ -36,25 +34,20 @@ enum-known-read c = search needs
 
 add-t17 : tie.Need-add-t17
 add-t17 c =
-    let e = c .before .before .before .before .before .before .read-expr .ensures ∙ ap (λ bs. shape (c .before .before .before .before .before .before .before .before .before .args .marks) (c .before .before .before .before .before .before .before .before .before .args .limit) (c .before .before .before .before .before .before .before .before .before .args .at + 1) (readExpr 8 31 (c .before .before .before .before .before .before .before .before .before .args .at + 1) bs)) (part-rest (c .before .before .before .before .before .before .before .before .before .args .part .now) 1) in
-    let w = taken-within (c .before .before .before .before .before .before .before .before .before .args .marks) (c .before .before .before .before .before .before .before .before .before .args .limit) 8 31 (c .before .before .before .before .before .before .before .before .before .args .at + 1) (drop 1 (c .before .before .before .before .before .before .before .before .before .args .part .now)) (c .before .before .before .before .read .given .0 .0) (sym (c .before .before .before .before .read .given .1) ∙ e) in
-    let p : 0 < length (c .before .before .before .before .before .before .before .before .before .args .part .now) = c .before .before .before .before .before .before .before .before .before .pre .0 in
-    omega (arith, w, length-drop 1 (c .before .before .before .before .before .before .before .before .before .args .part .now), p, c .before .before .before .before .before .before .before .before .before .good .0 .0)
+    let e = sym (ap (λ x. endOf x (c .before .before .before .before .read-expr .last .1 .1 .1 .1 .1 .1 .0)) (c .before .before .read .given .1)) ∙ c .before .before .before .before .read-expr .ensures ∙ ap (λ bs. shape (c .before .before .before .before .before .before .before .before .args .state) (c .before .before .before .before .before .before .before .before .args .own) (c .before .before .before .before .before .before .before .before .args .at + 1) (c .before .before .before .before .before .before .before .before .args .places .now) (readExpr 8 31 (c .before .before .before .before .before .before .before .before .args .at + 1) bs)) (part-rest (c .before .before .before .before .before .before .before .before .args .part .now) 1) in
+    let w = taken-within (c .before .before .before .before .before .before .before .before .args .state) (c .before .before .before .before .before .before .before .before .args .own) 8 31 (c .before .before .before .before .before .before .before .before .args .at + 1) (drop 1 (c .before .before .before .before .before .before .before .before .args .part .now)) (c .before .before .before .before .before .before .before .before .args .places .now) (c .before .before .read .given .0 .0) (c .before .before .before .before .read-expr .last .1 .1 .1 .1 .1 .1 .0) e in
+    omega (arith, w, length-drop 1 (c .before .before .before .before .before .before .before .before .args .part .now), c .before .before .before .before .before .before .before .before .pre .1)
 
 enum-known-read-2 : tie.Need-enum-known-read-2
 enum-known-read-2 c = search needs
 
 returns : tie.Need-returns
 unfolding guardAt
-returns c =
-    let e = c .before .before .before .before .before .before .read-expr .ensures ∙ ap (λ bs. shape (c .before .before .before .before .before .before .before .before .before .args .marks) (c .before .before .before .before .before .before .before .before .before .args .limit) (c .before .before .before .before .before .before .before .before .before .args .at + 1) (readExpr 8 31 (c .before .before .before .before .before .before .before .before .before .args .at + 1) bs)) (part-rest (c .before .before .before .before .before .before .before .before .before .args .part .now) 1) in
-    ap guardOf (sym (c .before .before .before .before .read .given .1) ∙ e)
+returns c = let e = sym (ap (λ x. endOf x (c .before .before .before .before .read-expr .last .1 .1 .1 .1 .1 .1 .0)) (c .before .before .read .given .1)) ∙ c .before .before .before .before .read-expr .ensures ∙ ap (λ bs. shape (c .before .before .before .before .before .before .before .before .args .state) (c .before .before .before .before .before .before .before .before .args .own) (c .before .before .before .before .before .before .before .before .args .at + 1) (c .before .before .before .before .before .before .before .before .args .places .now) (readExpr 8 31 (c .before .before .before .before .before .before .before .before .args .at + 1) bs)) (part-rest (c .before .before .before .before .before .before .before .before .args .part .now) 1) in ap guardOf e
 
 returns-2 : tie.Need-returns-2
 unfolding guardAt
-returns-2 c =
-    let e = c .before .before .before .read-expr .ensures ∙ ap (λ bs. shape (c .before .before .before .before .before .before .args .marks) (c .before .before .before .before .before .before .args .limit) (c .before .before .before .before .before .before .args .at + 1) (readExpr 8 31 (c .before .before .before .before .before .before .args .at + 1) bs)) (part-rest (c .before .before .before .before .before .before .args .part .now) 1) in
-    ap guardOf (sym (c .before .read2 .given .1) ∙ e)
+returns-2 c = let e = sym (ap (λ x. endOf x (c .before .before .before .read-expr .last .1 .1 .1 .1 .1 .1 .0)) (c .before .read2 .given .1)) ∙ c .before .before .before .read-expr .ensures ∙ ap (λ bs. shape (c .before .before .before .before .before .before .before .args .state) (c .before .before .before .before .before .before .before .args .own) (c .before .before .before .before .before .before .before .args .at + 1) (c .before .before .before .before .before .before .before .args .places .now) (readExpr 8 31 (c .before .before .before .before .before .before .before .args .at + 1) bs)) (part-rest (c .before .before .before .before .before .before .before .args .part .now) 1) in ap guardOf e
 
 pub take-guard-spec : {M : Type 1} → statement M
 take-guard-spec =

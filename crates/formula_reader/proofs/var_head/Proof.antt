@@ -1,6 +1,6 @@
--- `formula::var_head` meets its contract: cut short, absent or taken.
-use borrow.Author.Tests.{lt-ltb, le-ltb, le-leb, lt-leb, eq-eqb, ne-eqb}
-use Rattle.formula_reader.specs.Prefix.{place, first, joined, command, constHead, varHead, countHead, roomed, exprHead}
+-- `formula_reader::var_head` meets its contract: cut short, absent, or taken and noted.
+use Rattle.formula_reader.specs.Prefix.{varHead}
+use borrow.Author.Tests.{lt-ltb, le-ltb}
 use borrow.Author.Needs.{needs}
 use Rattle.formula_reader.proofs.var_head.Statement.{statement}
 use Rattle.formula_reader.proofs.var_head.Tie as tie
@@ -8,7 +8,7 @@ use Rattle.formula_reader.proofs.var_head.Reads as reads
 use Rattle.formula_reader.proofs.var_head.Lts as lts
 use Rattle.base.proofs.byte_at.Reads as byte-at-reads
 use Rattle.formula_reader.proofs.command_with.Reads as command-with-reads
-use Rattle.formula_reader.proofs.place_if.Reads as place-if-reads
+use Rattle.formula_reader.proofs.note_var.Reads as note-var-reads
 
 returns : tie.Need-returns
 unfolding varHead
@@ -20,21 +20,15 @@ byte-at-requires c κs = search needs
 cast-v : tie.Need-cast-v
 cast-v c = search needs
 
-array-read-unbound : tie.Need-array-read-unbound
-array-read-unbound c = search needs
-
-place-if-requires : tie.Need-place-if-requires
-place-if-requires c κs = search needs
-
-place-if-requires-2 : tie.Need-place-if-requires-2
-place-if-requires-2 c κs = search needs
+note-var-requires : tie.Need-note-var-requires
+note-var-requires c κs = search needs
 
 command-with-requires : tie.Need-command-with-requires
 command-with-requires c κs = search needs
 
 returns-2 : tie.Need-returns-2
 unfolding varHead
-returns-2 c = rw (le-ltb _ _ (c .before .before .before .before .before .if1 .left), ← (c .before .before .before .before .byte-at .ensures .0), lt-ltb _ _ (c .before .before .before .if2 .taken), ← (c .before .before .place-if .ensures), ← (c .before .place-if2 .ensures)) (c .command-with .ensures)
+returns-2 c = rw (le-ltb _ _ (c .before .before .before .before .before .if1 .left), ← (c .before .before .before .before .byte-at .ensures .0), lt-ltb _ _ (c .before .before .before .if2 .taken), c .command-with .ensures, c .before .note-var .ensures)
 
 returns-3 : tie.Need-returns-3
 unfolding varHead
@@ -47,9 +41,7 @@ var-head-spec =
     returns
     byte-at-requires
     cast-v
-    array-read-unbound
-    place-if-requires
-    place-if-requires-2
+    note-var-requires
     command-with-requires
     returns-2
     returns-3)

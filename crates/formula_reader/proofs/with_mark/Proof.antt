@@ -1,9 +1,9 @@
--- `formula::with_mark` meets its contract: past the end nothing changes.
-use mathlib.Core.Bool.{true, false}
+-- `formula_reader::with_mark` meets its contract: past the end nothing changes.
+use mathlib.Core.Bool.{true}
 use lib.Seq.{set-out}
 use native.Mathlib.Omega.{arith}
-use lib.ListN.{length, getD, set, List·getD-eq-default}
-use mathlib.Core.Path.{_≡_, refl, sym, subst, _∙_, ap}
+use lib.ListN.{length}
+use mathlib.Core.Path.{_≡_, sym}
 use borrow.Author.Needs.{needs}
 use Rattle.formula_reader.proofs.with_mark.Statement.{statement}
 use Rattle.formula_reader.proofs.with_mark.Tie as tie
