@@ -1,7 +1,7 @@
 // Bytes and values: what every reader of a file takes apart.
 ghost use mathlib.Core.Path.{_≡_};
-ghost use Prim.Native.Nat.{_<_};
-ghost use lib.ListN.{getD};
+ghost use Prim.Native.Nat.{_+_, _<_, _≤_};
+ghost use lib.ListN.{getD, length};
 ghost use Rattle.base.specs.Value.{valueAt};
 
 // A byte as a wider number.
@@ -18,16 +18,26 @@ pub fn byte_at(b: &[u8], at: usize) -> u32
     if at < b.len() { wide(b[at]) } else { 0 }
 }
 
-// The value of 4 bytes, big-endian, that begins at an offset.
+// The value of 4 bytes, big-endian, that are all there.
+pub fn value_inside(b: &[u8], at: usize) -> u32
+    requires { ⌜ at + 4 ≤ length (now b) ⌝ }
+    ensures { λ r. ⌜ r ≡ valueAt (now (b .entry)) at ⌝ }
+{
+    wide(b[at]) * 16777216 + wide(b[at + 1]) * 65536 + wide(b[at + 2]) * 256 + wide(b[at + 3])
+}
+
+// The value of 4 bytes, big-endian, that begins at an offset; a byte past the end is 0.
 pub fn value_at(b: &[u8], at: usize) -> u32
     ensures { λ r. ⌜ r ≡ valueAt (now (b .entry)) at ⌝ }
 {
-    if at < b.len() {
-        byte_at(b, at) * 16777216
-            + byte_at(b, at + 1) * 65536
-            + byte_at(b, at + 2) * 256
-            + byte_at(b, at + 3)
-    } else {
-        0
+    if b.len() <= at {
+        return 0;
     }
+    if 4 <= b.len() - at {
+        return value_inside(b, at);
+    }
+    byte_at(b, at) * 16777216
+        + byte_at(b, at + 1) * 65536
+        + byte_at(b, at + 2) * 256
+        + byte_at(b, at + 3)
 }

@@ -238,7 +238,7 @@ pub fn search_from(
     log: LogReading,
     at: usize,
     f: &[u8],
-    table: &[usize],
+    table: &[usize; 128],
     kinds: &[u32],
     start: usize,
     slots: usize,

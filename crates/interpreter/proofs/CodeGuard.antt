@@ -5,7 +5,7 @@ use mathlib.Core.Bool.{Bool, true, false, cond}
 use mathlib.Core.List.{List, [], _∷_, _++_, append-assoc}
 use native.Mathlib.Omega.{arith}
 use borrow.Author.Tests.{lt-ltb, le-ltb, ne-eqb, eqb-false}
-use lib.ListN.{length, getD, take, drop, List·getD-eq-default, length-drop, length-append}
+use lib.ListN.{length, getD, take, drop, length-drop, length-append}
 use lib.Seq.{take-all, drop-append-seam}
 use lib.Dec.{eqb}
 use Rattle.base.specs.Value.{bytesOf, valueAt}
@@ -16,10 +16,6 @@ use Rattle.formula.specs.Correct.{depth, Leaves, Value}
 use Rattle.interpreter.specs.declared.Evaluated.{Evaluated}
 use Rattle.machine.specs.Guard.{value}
 use Rattle.interpreter.specs.Bytes.{operandsOf, applied, leafValue, leafWidth, leafUsed, evaluatedThird, evaluatedSecond, evaluatedFirst, evaluated}
-
--- past the 8 variables, or the 16 states, there is 0
-pub past-end : (l : List ℕ) (n i : ℕ) → length l ≡ n → n ≤ i → 0 ≡ getD l i 0
-past-end l n i h k = sym (List·getD-eq-default l 0 (omega arith))
 
 pub two-operands : (c : ℕ) → (c ≡ 0x28 → ⊥) → 0x23 ≤ c → c < 0x2B → 2 ≡ operandsOf c
 unfolding operandsOf

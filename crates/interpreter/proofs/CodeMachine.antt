@@ -39,24 +39,24 @@ answered : (b : Bool) (d : Config) → isFired (cond b (some d) none) ≡ b
 answered true d = refl
 answered false d = refl
 
-module _ (fields states : ℕ) (f : List ℕ) (c : Configuration) (r : Ready c) where
-  step-there : (at : ℕ) (s : Step) → 0 < at → StepAt fields states f at s → isStep f at ≡ true
-  unfolding isStep
-  step-there at s h k = rw (ne-eqb at 0 (λ e. omega arith), lt-ltb at (length f) (inside fields states f at s k))
+pub step-there : (fields states : ℕ) (f : List ℕ) (at : ℕ) (s : Step) → 0 < at → StepAt fields states f at s → isStep f at ≡ true
+unfolding isStep
+step-there fields states f at s h k = rw (ne-eqb at 0 (λ e. omega arith), lt-ltb at (length f) (inside fields states f at s k))
 
+module _ (fields states : ℕ) (f : List ℕ) (c : Configuration) (r : Ready c) where
   -- what is at an offset fires as the step does
   fires-by : (o : Option Step) (at : ℕ) (event : List ℕ) → StepThere fields states f at o → (isStep f at && (fired f at c event) .fires) ≡ isFired (fireBy o (configOf c) event)
   unfolding isStep
   fires-by none at event h = rw h
   fires-by (some s) at event h =
-      rw (step-there at s (h .0) (h .1), fire-answer fields states f at c s event (h .1) r) (sym (answered ((fired f at c event) .fires) (configOf ((fired f at c event) .config))))
+      rw (step-there fields states f at s (h .0) (h .1), fire-answer fields states f at c s event (h .1) r) (sym (answered ((fired f at c event) .fires) (configOf ((fired f at c event) .config))))
 
   -- and is expired as the step is
   expires-by : (log : Log) (rising : List Bool) → ((g : ℕ) → getD rising g false ≡ rises (log .fields) g) → (o : Option Step) (at : ℕ) (event : List ℕ) → StepThere fields states f at o
       → (not (isStep f at) || lapsed f at c rising event) ≡ expiredBy log o (configOf c) event
   unfolding isStep
   expires-by log rising mark none at event h = rw h
-  expires-by log rising mark (some s) at event h = rw (step-there at s (h .0) (h .1)) (expired-encode fields states f at s (h .1) (log .fields) rising mark c r event)
+  expires-by log rising mark (some s) at event h = rw (step-there fields states f at s (h .0) (h .1)) (expired-encode fields states f at s (h .1) (log .fields) rising mark c r event)
 
 -- the machine of a log and a formula, on an event whose fields the code holds
 module _ (log : Log) (formula : Formula) (fields states : ℕ) (f table : List ℕ) (chart : Charted fields states formula f table) (c : Configuration) (r : Ready c) (n : ℕ) (event : List ℕ)

@@ -83,7 +83,7 @@ module _ (f prior : List ℕ) (rises : List Bool) (event : List ℕ) where
   unfolding clauseAt
   clause-due w h = pick-due (eqb (getD f (w .at) 0) 0x12) (eqb (getD f (w .at) 0) 0x13) _ _ _ (test-due w _ _ _ _ _ h) (test-due w _ _ _ _ _ h) (bind-due w _ _ _ _ h)
 
-  walk-fails : (n : ℕ) (w : Walked) → w .passes ≡ false → (walkFrom n f prior rises event w) .passes ≡ false
+  pub walk-fails : (n : ℕ) (w : Walked) → w .passes ≡ false → (walkFrom n f prior rises event w) .passes ≡ false
   unfolding walkFrom
   walk-fails zero w h = h
   walk-fails (suc n) w h = go (isClause (getD f (w .at) 0)) _ w (walk-fails n (clauseAt f prior rises event w) (clause-fails w h)) h

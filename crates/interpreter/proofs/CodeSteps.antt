@@ -8,11 +8,11 @@ use native.Mathlib.Numerals.{add-one}
 use borrow.Author.Tests.{le-leb, lt-leb, ltb-true, eq-eqb, ne-eqb, eqb-true, eqb-false}
 use lib.ListN.{length, getD, replicate, List·getD-eq-default}
 use lib.Dec.{eqb, ltb}
-use Rattle.base.specs.Value.{valueAt}
 use Rattle.interpreter.specs.declared.Configuration.{Configuration}
 use Rattle.interpreter.specs.declared.Walked.{Walked}
-use Rattle.interpreter.specs.Bytes.{isClause, tested, bound, clauseAt, walkFrom, begun, walked, raised, guardAt, fired, lapsed, offsetOf, isStep, firesAt, expiresAt, lowestFrom, lowestOf, aliveBelow}
+use Rattle.interpreter.specs.Bytes.{isClause, walkFrom, begun, walked, raised, guardAt, fired, lapsed, offsetOf, isStep, firesAt, expiresAt, lowestFrom, lowestOf, aliveBelow}
 use Rattle.interpreter.proofs.CodeWalk.{Walking, walking-done}
+use Rattle.interpreter.proofs.CodeMarks.{walk-fails}
 
 pub offset-over : (table : List ℕ) (s k : ℕ) → 8 ≤ k → 0 ≡ offsetOf table s k
 unfolding offsetOf
@@ -88,27 +88,6 @@ module _ (p : ℕ → Bool) where
   pub alive-here : (k : ℕ) → k < 8 → not (p k) ≡ true → true ≡ aliveBelow p 8
   alive-here k h e = sym (alive-below k 8 h e)
 
--- a walk in which a clause has failed does not pass
-clause-fails : (f prior : List ℕ) (rising : List Bool) (event : List ℕ) (w : Walked) → w .passes ≡ false → (clauseAt f prior rising event w) .passes ≡ false
-unfolding clauseAt tested bound
-clause-fails f prior rising event w h = go (eqb (getD f (w .at) 0) 0x12) (eqb (getD f (w .at) 0) 0x13)
-  where
-    go : (s t : Bool) → (cond s (tested w (w .at + 7) (getD f (w .at + 2) 0) (getD event (getD f (w .at + 1) 0) 0) (valueAt f (w .at + 3)) (getD rising (getD f (w .at + 1) 0) false))
-        (cond t (tested w (w .at + 4) (getD f (w .at + 2) 0) (getD event (getD f (w .at + 1) 0) 0) (getD prior (getD f (w .at + 3) 0) 0) (getD rising (getD f (w .at + 1) 0) false))
-        (bound w (w .at + 3) (getD f (w .at + 2) 0) (getD event (getD f (w .at + 1) 0) 0) (getD rising (getD f (w .at + 1) 0) false)))) .passes ≡ false
-    go true t = rw h
-    go false true = rw h
-    go false false = rw h
-
-walk-fails : (n : ℕ) (f prior : List ℕ) (rising : List Bool) (event : List ℕ) (w : Walked) → w .passes ≡ false → (walkFrom n f prior rising event w) .passes ≡ false
-unfolding walkFrom
-walk-fails zero f prior rising event w h = h
-walk-fails (suc n) f prior rising event w h = go (walk-fails n f prior rising event (clauseAt f prior rising event w) (clause-fails f prior rising event w h)) (isClause (getD f (w .at) 0))
-  where
-    go : (walkFrom n f prior rising event (clauseAt f prior rising event w)) .passes ≡ false → (b : Bool) → (cond b (walkFrom n f prior rising event (clauseAt f prior rising event w)) w) .passes ≡ false
-    go i true = i
-    go i false = h
-
 -- how one step of the search ends
 module _ (f table : List ℕ) (c : Configuration) (event : List ℕ) (k at : ℕ) (place : at ≡ offsetOf table (c .state) k) where
   pub fires-absent : isStep f at ≡ false → firesAt f table c event k ≡ false
@@ -126,7 +105,7 @@ module _ (f table : List ℕ) (c : Configuration) (event : List ℕ) (k at : ℕ
 
     -- a test that fails
     pub fires-failed : w .passes ≡ false → firesAt f table c event k ≡ false
-    fires-failed h = fires-fired ∙ rw (ahead, walk-fails (way .left) f (c .values) (replicate 8 false) event w h)
+    fires-failed h = fires-fired ∙ rw (ahead, walk-fails f (c .values) (replicate 8 false) event (way .left) w h)
 
     -- every test passes, and the guard decides
     pub fires-guard : (counters : List ℕ) (b g : Bool) → counters ≡ raised (c .counters) (c .state) → isClause (getD f (w .at) 0) ≡ false → w .passes ≡ true → g ≡ guardAt f (w .at) (w .values) counters → g ≡ b → firesAt f table c event k ≡ b

@@ -14,7 +14,7 @@ use Rattle.interpreter.specs.declared.Walked.{Walked}
 use Rattle.interpreter.specs.Bytes.{holdsBy, missedBy, isClause, tested, holding, bound, clauseAt, walkFrom, begun, walked}
 
 -- past the 8 marks there is none
-pub no-mark : (l : List Bool) (i : ℕ) → length l ≡ 8 → 8 ≤ i → false ≡ getD l i false
+no-mark : (l : List Bool) (i : ℕ) → length l ≡ 8 → 8 ≤ i → false ≡ getD l i false
 no-mark l i h k = sym (List·getD-eq-default l false (omega arith))
 
 pub clause-in : (c : ℕ) → 0x12 ≤ c → c < 0x15 → true ≡ isClause c

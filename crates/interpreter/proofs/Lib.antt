@@ -9,3 +9,4 @@ pub mod CodeExpiry
 pub mod CodeSteps
 pub mod CodeSame
 pub mod CodeMachine
+pub mod CodeLookup

@@ -3,7 +3,7 @@ use crate::Configuration;
 use crate::Walked;
 use crate::guard::value_of;
 ghost use mathlib.Core.Path.{_≡_};
-ghost use mathlib.Core.Bool.{true, false, _&&_, _||_};
+ghost use mathlib.Core.Bool.{false, _&&_, _||_};
 ghost use Prim.Native.Nat.{_<_, _+_, _^_};
 ghost use lib.ListN.{getD, length};
 ghost use Rattle.interpreter.specs.Bytes.{holdsBy, missedBy, isClause, tested, holding, bound, clauseAt, begun, walked};
@@ -47,11 +47,11 @@ pub fn missed(operator: u32, x: u32, y: u32) -> bool
 }
 
 // A variable's or a field's mark, false where there is none.
-pub fn mark_of(marks: [bool; 8], i: u32) -> bool
-    ensures { λ r. ⌜ r ≡ getD marks i false ⌝ }
+pub fn mark_of(marks: &[bool], n: u32) -> bool
+    ensures { λ r. ⌜ r ≡ getD (now (marks .entry)) n false ⌝ }
 {
-    let k = i as usize;
-    if k < 8 { marks[k] } else { false }
+    let i = n as usize;
+    if i < marks.len() { marks[i] } else { false }
 }
 
 // A TEST or TESTV: a field's value against another; `rises` says whether the field does.
@@ -90,7 +90,7 @@ fn bind(w: Walked, next: usize, v: u32, x: u32, rises: bool) -> Walked
     let mut then = hold(w, v, x, rises);
     let values = then.values;
     then.at = next;
-    then.passes = both(w.passes, x == value_of(values, v));
+    then.passes = both(w.passes, x == value_of(&values, v));
     then
 }
 
@@ -101,8 +101,8 @@ pub fn clause(f: &[u8], w: Walked, prior: [u32; 8], rises: [bool; 8], event: [u3
 {
     let at = w.at;
     let field = base::byte_at(f, at + 1);
-    let x = value_of(event, field);
-    let rising = mark_of(rises, field);
+    let x = value_of(&event, field);
+    let rising = mark_of(&rises, field);
     let operand = base::byte_at(f, at + 2);
     let command = base::byte_at(f, at);
     match command {
@@ -112,7 +112,7 @@ pub fn clause(f: &[u8], w: Walked, prior: [u32; 8], rises: [bool; 8], event: [u3
             at + 4,
             operand,
             x,
-            value_of(prior, base::byte_at(f, at + 3)),
+            value_of(&prior, base::byte_at(f, at + 3)),
             rising,
         ),
         _ => bind(w, at + 3, operand, x, rising),

@@ -1,9 +1,8 @@
 // The value of a guard, by recursion over its bytes.
 use crate::Evaluated;
 ghost use mathlib.Core.Path.{_≡_};
-ghost use mathlib.Core.Bool.{Bool};
 ghost use Prim.Native.Nat.{_-_, _+_, min};
-ghost use lib.ListN.{getD, length};
+ghost use lib.ListN.{getD};
 ghost use Rattle.machine.specs.Guard.{bit};
 ghost use Rattle.interpreter.specs.Bytes.{operandsOf, applied, leafValue, leafWidth, leafUsed, evaluated};
 
@@ -61,20 +60,12 @@ fn apply(command: u32, a: u32, b: u32, d: u32) -> u32
     }
 }
 
-// A variable's value, 0 where there is no such variable.
-pub fn value_of(values: [u32; 8], v: u32) -> u32
-    ensures { λ r. ⌜ r ≡ getD values v 0 ⌝ }
+// The value of a variable or a field, or a state's counter, by its number; 0 where there is none.
+pub fn value_of(values: &[u32], n: u32) -> u32
+    ensures { λ r. ⌜ r ≡ getD (now (values .entry)) n 0 ⌝ }
 {
-    let i = v as usize;
-    if i < 8 { values[i] } else { 0 }
-}
-
-// A state's counter, 0 where there is no such state.
-fn counter_of(counters: [u32; 16], s: u32) -> u32
-    ensures { λ r. ⌜ r ≡ getD counters s 0 ⌝ }
-{
-    let i = s as usize;
-    if i < 16 { counters[i] } else { 0 }
+    let i = n as usize;
+    if i < values.len() { values[i] } else { 0 }
 }
 
 // The value of a command without operands.
@@ -84,8 +75,8 @@ fn leaf_value(part: &[u8], values: [u32; 8], counters: [u32; 16]) -> u32
     let command = base::byte_at(part, 0);
     match command {
         0x20 => base::value_at(part, 1),
-        0x21 => value_of(values, base::byte_at(part, 1)),
-        0x22 => counter_of(counters, base::byte_at(part, 1)),
+        0x21 => value_of(&values, base::byte_at(part, 1)),
+        0x22 => value_of(&counters, base::byte_at(part, 1)),
         _ => 0,
     }
 }

@@ -1,45 +1,18 @@
 // What an event alone says of a step: a TEST reads no variable, so one pass over a step's clauses serves every configuration.
 use crate::clauses::both;
 use crate::clauses::holds;
+use crate::clauses::mark_of;
 use crate::clauses::missed;
+use crate::guard::value_of;
 ghost use mathlib.Core.Path.{_≡_};
-ghost use mathlib.Core.Bool.{false};
 ghost use Prim.Native.Nat.{_≤_, _+_};
-ghost use lib.ListN.{getD, length};
-ghost use Rattle.base.specs.Value.{valueAt};
+ghost use lib.ListN.{length};
 ghost use Rattle.interpreter.specs.Marks.{MarkIs, widthOf, failsAt, missesAt};
 
 // What an event alone says of a step, whatever the configuration: it does not fire; it is expired.
 pub struct Mark {
     pub barred: bool,
     pub due: bool,
-}
-
-// The event's value of a field, 0 where there is none.
-fn value_in(event: &[u32], field: u32) -> u32
-    ensures { λ r. ⌜ r ≡ getD (now (event .entry)) field 0 ⌝ }
-{
-    let k = field as usize;
-    if k < event.len() { event[k] } else { 0 }
-}
-
-// Whether a field rises, false where there is none.
-fn rises_in(rises: &[bool], field: u32) -> bool
-    ensures { λ r. ⌜ r ≡ getD (now (rises .entry)) field false ⌝ }
-{
-    let k = field as usize;
-    if k < rises.len() { rises[k] } else { false }
-}
-
-// The value of 4 bytes that are all there.
-fn value_inside(f: &[u8], at: usize) -> u32
-    requires { ⌜ at + 4 ≤ length (now f) ⌝ }
-    ensures { λ r. ⌜ r ≡ valueAt (now (f .entry)) at ⌝ }
-{
-    base::wide(f[at]) * 16777216
-        + base::wide(f[at + 1]) * 65536
-        + base::wide(f[at + 2]) * 256
-        + base::wide(f[at + 3])
 }
 
 // The bytes of a clause, by its command; 0 for what is no clause.
@@ -62,8 +35,12 @@ fn fails(f: &[u8], command: u32, place: usize, event: &[u32]) -> bool
     if command != 0x12 {
         return false;
     }
-    let x = value_in(event, base::wide(f[place + 1]));
-    !holds(base::wide(f[place + 2]), x, value_inside(f, place + 3))
+    let x = value_of(event, base::wide(f[place + 1]));
+    !holds(
+        base::wide(f[place + 2]),
+        x,
+        base::value_inside(f, place + 3),
+    )
 }
 
 // Whether the TEST there is past due.
@@ -72,9 +49,13 @@ fn misses(f: &[u8], place: usize, rises: &[bool], event: &[u32]) -> bool
     ensures { λ r. ⌜ r ≡ missesAt (now (f .entry)) place (now (rises .entry)) (now (event .entry)) ⌝ }
 {
     let field = base::wide(f[place + 1]);
-    let x = value_in(event, field);
-    let late = missed(base::wide(f[place + 2]), x, value_inside(f, place + 3));
-    both(rises_in(rises, field), late)
+    let x = value_of(event, field);
+    let late = missed(
+        base::wide(f[place + 2]),
+        x,
+        base::value_inside(f, place + 3),
+    );
+    both(mark_of(rises, field), late)
 }
 
 // The mark of the STEP at an offset: a TEST of it is false on the event; a TEST of it is past due.

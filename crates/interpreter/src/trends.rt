@@ -46,7 +46,7 @@ fn leaf(part: &[u8], marks: [bool; 8]) -> Judged
     let command = base::byte_at(part, 0);
     let used = leaf_used(part);
     if command == 0x21 {
-        let yes = mark_of(marks, base::byte_at(part, 1));
+        let yes = mark_of(&marks, base::byte_at(part, 1));
         return Judged { yes, used };
     }
     Judged { yes: true, used }

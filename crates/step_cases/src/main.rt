@@ -1,5 +1,6 @@
 // Runs one step of the semantics on the bench's executed cases, and prints a line for each: whether a step with time less than 600
-// is expired (the paper's hopeless) after 599, 600 and 601, on a rising and on a plain field; and which events fire which steps of F.
+// is expired (the paper's hopeless) after 599, 600 and 601, on a rising and on a plain field; which events fire which steps of F;
+// and where the steps of a formula with guards and their guards stand.
 use interpreter::Configuration;
 use libc::STDOUT_FILENO;
 
@@ -32,36 +33,11 @@ fn show_expired(rising: bool, time: u32) {
 
 // Whether the STEP at an offset of F fires on an event, from its state with variable 0 as held.
 fn show_fires(at: usize, state: u32, held: bool, time: u32, code: u32) {
-    let f = [
-        16u8,
-        0,
-        17,
-        1,
-        18,
-        1,
-        0,
-        0,
-        0,
-        0,
-        1,
-        20,
-        0,
-        0,
-        16,
-        0,
-        17,
-        2,
-        18,
-        1,
-        0,
-        0,
-        0,
-        0,
-        2,
-        16,
-        2,
-        0,
-    ];
+    let f = b"\x10\x00\
+        \x11\x01\x12\x01\x00\x00\x00\x00\x01\x14\x00\x00\
+        \x10\x00\
+        \x11\x02\x12\x01\x00\x00\x00\x00\x02\
+        \x10\x02\x00";
     let mut c = start();
     c.state = state;
     if held {
@@ -70,8 +46,38 @@ fn show_fires(at: usize, state: u32, held: bool, time: u32, code: u32) {
     }
     io::write_all(STDOUT_FILENO, b"fires at ");
     io::print_decimal(STDOUT_FILENO, at as u64);
-    let fired = interpreter::firing::fire(&f, at, c, [time, code, 0, 0, 0, 0, 0, 0]);
+    let fired = interpreter::firing::fire(f, at, c, [time, code, 0, 0, 0, 0, 0, 0]);
     say(fired.fires);
+}
+
+// Where step k of state s stands and where its guard does, 0 where there is none. Each line of bytes is a STATE, or a STEP with its
+// clauses and its guard; the table holds the offsets of the three STEPs.
+fn show_places(s: u32, k: usize) {
+    let f = b"\x10\x00\
+        \x11\x01\x14\x00\x00\x12\x01\x00\x00\x00\x00\x15\
+        \x11\x01\x15\x25\x22\x00\x20\x00\x00\x00\x03\
+        \x10\x00\
+        \x11\x02\x13\x00\x05\x00\x12\x01\x00\x00\x00\x00\x02\x14\x00\x01\x15\x25\x21\x00\x21\x01\
+        \x10\x02\x00";
+    let mut table = [0usize; 128];
+    table[0] = 2;
+    table[1] = 14;
+    table[8] = 27;
+    io::write_all(STDOUT_FILENO, b"step ");
+    io::print_decimal(STDOUT_FILENO, k as u64);
+    io::write_all(STDOUT_FILENO, b" of state ");
+    io::print_decimal(STDOUT_FILENO, s as u64);
+    io::write_all(STDOUT_FILENO, b" at ");
+    io::print_decimal(
+        STDOUT_FILENO,
+        interpreter::steps::step_offset(&table, s, k) as u64,
+    );
+    io::write_all(STDOUT_FILENO, b" guard at ");
+    io::print_decimal(
+        STDOUT_FILENO,
+        interpreter::steps::guard_offset(f, &table, s, k) as u64,
+    );
+    io::write_all(STDOUT_FILENO, b"\n");
 }
 
 fn main() {
@@ -85,4 +91,9 @@ fn main() {
     show_fires(2, 0, true, 501, 1);
     show_fires(16, 1, true, 500, 1);
     show_fires(16, 1, true, 500, 2);
+    show_places(0, 0);
+    show_places(0, 1);
+    show_places(1, 0);
+    show_places(1, 1);
+    show_places(2, 0);
 }

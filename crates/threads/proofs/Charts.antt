@@ -1,25 +1,18 @@
 -- Where a search's setting stands, the code of one step is given what its laws ask: the table's offsets are those of the formula's steps,
 -- the array has the event's fields, the marks are those of the rising fields, and a kept thread's configuration is ready.
-use Prim.Native.Nat.{ℕ, zero, suc, _+_, _*_, _<_, _≤_}
+use Prim.Native.Nat.{ℕ, _<_, _≤_}
 use mathlib.Core.Path.{_≡_, refl, ap, sym, subst, _∙_}
 use mathlib.Core.Bool.{Bool, true, false, cond}
-use mathlib.Core.List.{List, [], _∷_, _++_, map}
+use mathlib.Core.List.{List, [], map}
 use mathlib.Core.Option.{Option, none, some}
-use mathlib.Core.Logic.{⊎-elim}
 use native.Mathlib.Omega.{arith}
 use native.Mathlib.Decide.{decLt}
-use lib.ListN.{length, getD, getElem?, length-map, List·getD-eq-default, List·getD-map}
-use Rattle.base.specs.Lists.{All, pad}
-use Rattle.base.proofs.Lists.{length-pad, getD-pad, All-at, All-append}
+use lib.ListN.{length, getD, List·getD-eq-default, List·getD-map}
+use Rattle.base.specs.Lists.{pad}
+use Rattle.base.proofs.Lists.{length-pad, getD-pad, All-at}
 use Rattle.event_log.specs.Log.{Log, Kind, plain, rising, Event}
 use Rattle.event_log.specs.Read as LogRead
-use Rattle.formula.specs.Formula.{Formula, State, Step, ordinary, Clause}
-use Rattle.formula.specs.Encode.{Command, CLAUSE, encode, stepCommands, guardCommands}
-use Rattle.formula.specs.Correct.{Exists, Correct}
-use Rattle.formula.specs.Unbound.{stepsOf}
-use Rattle.formula.specs.Lookup.{stepAt, stepPlace, placeIf, stepTable, encodeStep}
-use Rattle.formula.proofs.Places.{Boundary, boundary-below, step-bytes, state-there, step-stands, place-positive, table-place, table-length}
-use Rattle.formula.proofs.Steps.{right-step}
+use Rattle.formula.specs.Formula.{Formula, Step}
 use Rattle.machine.specs.Configuration.{Config, Valid, total}
 use Rattle.machine.specs.Firing.{field, fire}
 use Rattle.machine.proofs.Walk.{fire-fields}
@@ -28,30 +21,12 @@ use Rattle.interpreter.specs.declared.Configuration.{Configuration}
 use Rattle.threads.specs.declared.Move.{Move}
 use Rattle.threads.specs.Calls.{FiredBy}
 use Rattle.machine.specs.Expiry.{isRising, rises}
-use Rattle.machine.specs.Machine.{stepIn, stepOf, eventAt, fireBy, fireAt}
+use Rattle.machine.specs.Machine.{stepOf, eventAt, fireBy, fireAt}
 use Rattle.interpreter.specs.Bytes.{offsetOf, configOf, fired}
-use Rattle.interpreter.proofs.CodeSteps.{offset-in}
-use Rattle.interpreter.proofs.CodeFiring.{StepAt, Ready, ready, fire-answer}
+use Rattle.interpreter.proofs.CodeFiring.{Ready, ready, fire-answer}
 use Rattle.interpreter.proofs.CodeMachine.{StepThere, Charted}
+use Rattle.interpreter.proofs.CodeLookup as Lookup
 use Rattle.threads.specs.Setting.{Setting, Loads, Fit, conf}
-
--- the machine's step by number is the formula's
-step-in : (xs : List State) (s k : ℕ) → stepIn (getElem? xs s) k ≡ getElem? ((getD xs s (record { kind = ordinary; steps = [] })) .steps) k
-step-in [] s k = refl
-step-in (x ∷ xs) zero k = refl
-step-in (x ∷ xs) (suc s) k = step-in xs s k
-
-step-same : (fm : Formula) (s k : ℕ) → stepOf fm s k ≡ stepAt fm s k
-unfolding stepOf stepAt stepsOf
-step-same fm s k = step-in (fm .states) s k
-
-boundary-first : (bs : List ℕ) → Boundary bs → getD bs 0 0 < 0x12
-boundary-first [] h = absurd h
-boundary-first (b ∷ bs) h = boundary-below b bs h
-
-clauses-exist : (m n : ℕ) (ks : List Clause) → All (λ (c : Clause). Exists m n (CLAUSE c)) ks → All (Exists m n) (map CLAUSE ks)
-clauses-exist m n [] h = tt
-clauses-exist m n (k ∷ ks) h = (h .0, clauses-exist m n ks (h .1))
 
 -- the log's mark of a field is the machine's
 same-mark : (k : Kind) → LogRead.rises k ≡ isRising k
@@ -59,34 +34,8 @@ same-mark plain = refl
 same-mark rising = refl
 
 module _ (g : Log) (fm : Formula) (f table kinds : List ℕ) (up : List Bool) (s : Setting g fm f table kinds up) where
-  step-at : (i k : ℕ) (t : Step) → stepAt fm i k ≡ some t → StepAt (length (g .fields)) (length (fm .states)) f (stepPlace fm i k) t
-  unfolding stepCommands
-  step-at i k t e =
-      let p = step-stands fm i k t e in
-      let r = right-step (g .fields) fm i k t (s .formula) e in
-      let m = length (g .fields) in
-      let n = length (fm .states) in
-      record {
-        after = p .behind;
-        bytes = rw (s .bytes, step-bytes t) (p .bytes);
-        ends = boundary-first (p .behind) (p .boundary);
-        exist = (r .target, All-append (Exists m n) (map CLAUSE (t .clauses)) (guardCommands (t .guard)) (clauses-exist m n (t .clauses) (r .clauses)) (r .guard));
-        fits = r .fits;
-      }
-
-  there : (i k : ℕ) (o : Option Step) → stepAt fm i k ≡ o → k < 8 → StepThere (length (g .fields)) (length (fm .states)) f (getD (stepTable fm) (i * 8 + k) 0) o
-  there i k none e h = go (decLt i 16)
-    where
-      go : Dec (i < 16) → getD (stepTable fm) (i * 8 + k) 0 ≡ 0
-      go (yes p) = table-place fm i k p h ∙ ap (λ o. placeIf o (stepPlace fm i k)) e
-      go (no p) = List·getD-eq-default (stepTable fm) 0 (omega (arith, table-length fm))
-  there i k (some t) e h =
-      let b : i < 16 = omega (arith, state-there fm i k t e, s .formula .states) in
-      let q : getD (stepTable fm) (i * 8 + k) 0 ≡ stepPlace fm i k = table-place fm i k b h ∙ ap (λ o. placeIf o (stepPlace fm i k)) e in
-      rw q (omega (arith, place-positive fm i k), step-at i k t e)
-
   pub charted : Charted (length (g .fields)) (length (fm .states)) fm f table
-  charted = record { stands = λ i k h. rw (step-same fm i k, ← offset-in table i k h, s .table-is) (there i k (stepAt fm i k) refl h) }
+  charted = rw (s .bytes, s .table-is) (Lookup.charted (g .fields) fm (s .formula))
 
   pub marks : (i : ℕ) → getD up i false ≡ rises (g .fields) i
   marks i = go (decLt i 8)

@@ -1,79 +1,79 @@
-use borrow.Author.Needs.{needs}
-use mathlib.Core.Path.{sym}
-use native.Mathlib.Omega.{arith}
-use Rattle.base.specs.Value.{valueAt}
+-- `base::value_at` meets its contract: past the end, all four bytes inside, or byte by byte.
 use Rattle.base.proofs.Values.{value-past}
+use Rattle.base.specs.Value.{valueAt}
+use native.Mathlib.Omega.{arith}
+use mathlib.Core.Path.{sym}
+use borrow.Author.Needs.{needs}
 use Rattle.base.proofs.value_at.Statement.{statement}
 use Rattle.base.proofs.value_at.Tie as tie
 use Rattle.base.proofs.value_at.Reads as reads
 use Rattle.base.proofs.value_at.Lts as lts
 use Rattle.base.proofs.byte_at.Reads as byte-at-reads
+use Rattle.base.proofs.value_inside.Reads as value-inside-reads
 
--- src/lib.rt:26:9
+returns : tie.Need-returns
+returns c = sym (value-past _ _ (c .if1 .taken))
+
+sub-if2 : tie.Need-sub-if2
+sub-if2 c = search needs
+
+value-inside-requires : tie.Need-value-inside-requires
+value-inside-requires c κs = search needs
+
+returns-2 : tie.Need-returns-2
+returns-2 c = search needs
+
 byte-at-requires : tie.Need-byte-at-requires
 byte-at-requires c κs = search needs
 
--- src/lib.rt:26:9
 mul-result : tie.Need-mul-result
 mul-result c = search needs
 
--- src/lib.rt:26:48
 add-byte-at : tie.Need-add-byte-at
 add-byte-at c = search needs
 
--- src/lib.rt:26:37
 byte-at-requires-2 : tie.Need-byte-at-requires-2
 byte-at-requires-2 c κs = search needs
 
--- src/lib.rt:26:37
 mul-result-2 : tie.Need-mul-result-2
 mul-result-2 c = search needs
 
--- src/lib.rt:26:9
 add-result : tie.Need-add-result
 add-result c = search needs
 
--- src/lib.rt:26:77
 add-byte-at-2 : tie.Need-add-byte-at-2
 add-byte-at-2 c = search needs
 
--- src/lib.rt:26:66
 byte-at-requires-3 : tie.Need-byte-at-requires-3
 byte-at-requires-3 c κs = search needs
 
--- src/lib.rt:26:66
 mul-result-3 : tie.Need-mul-result-3
 mul-result-3 c = search needs
 
--- src/lib.rt:26:9
 add-result-2 : tie.Need-add-result-2
 add-result-2 c = search needs
 
--- src/lib.rt:26:104
 add-byte-at-3 : tie.Need-add-byte-at-3
 add-byte-at-3 c = search needs
 
--- src/lib.rt:26:93
 byte-at-requires-4 : tie.Need-byte-at-requires-4
 byte-at-requires-4 c κs = search needs
 
--- src/lib.rt:26:9
 add-result-3 : tie.Need-add-result-3
 add-result-3 c = search needs
 
--- src/lib.rt:22:1
-returns : tie.Need-returns
+returns-3 : tie.Need-returns-3
 unfolding valueAt
-returns c = omega (arith, c .before .before .before .byte-at .ensures .0, c .before .before .byte-at2 .ensures .0, c .before .byte-at3 .ensures .0, c .byte-at4 .ensures .0)
-
--- src/lib.rt:22:1
-returns-2 : tie.Need-returns-2
-returns-2 c = sym (value-past _ _ (c .if1 .left))
+returns-3 c = omega (arith, c .before .before .before .byte-at .ensures .0, c .before .before .byte-at2 .ensures .0, c .before .byte-at3 .ensures .0, c .byte-at4 .ensures .0)
 
 pub value-at-spec : {M : Type 1} → statement M
 value-at-spec =
     tie.close
     (tie.spec
+    returns
+    sub-if2
+    value-inside-requires
+    returns-2
     byte-at-requires
     mul-result
     add-byte-at
@@ -87,5 +87,4 @@ value-at-spec =
     add-byte-at-3
     byte-at-requires-4
     add-result-3
-    returns
-    returns-2)
+    returns-3)

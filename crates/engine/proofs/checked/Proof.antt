@@ -35,9 +35,6 @@ slots-of-requires c κs = search needs
 slice-aggregate-search-from : tie.Need-slice-aggregate-search-from
 slice-aggregate-search-from c = search needs
 
-slice-aggregate-search-from-2 : tie.Need-slice-aggregate-search-from-2
-slice-aggregate-search-from-2 c = search needs
-
 search-from-requires : tie.Need-search-from-requires
 search-from-requires c κs =
     let k = slots-fit (length (now (c .before .before .before .before .before .before .before .before .before .before .before .before .args .work))) (c .before .before .before .before .before .before .before .if2 .left) in
@@ -63,7 +60,6 @@ checked-spec =
     skip-to-requires
     slots-of-requires
     slice-aggregate-search-from
-    slice-aggregate-search-from-2
     search-from-requires
     same-length
     returns-3)

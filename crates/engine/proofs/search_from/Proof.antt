@@ -29,15 +29,15 @@ abbrev μ-loop : tie.MeasureT-loop
 μ-loop l log at f table kinds start slots work₀ wide half₀ count₀ width₀ place₀ n₀ work half count width place n = log .events - n
 
 origin-in-requires : tie.Need-origin-in-requires Inv-loop μ-loop
-origin-in-requires c κs = omega (arith, c .before .before .before .before .before .before .pre)
+origin-in-requires c κs = omega (arith, c .before .before .before .before .before .pre)
 
 widened-requires : tie.Need-widened-requires Inv-loop μ-loop
 widened-requires c κs = search needs
 
 loop-holds : tie.Need-loop-holds Inv-loop μ-loop
 loop-holds c =
-    let a = c .before .before .before .before .before .before .before .before .before .before .args in
-    (omega arith, omega (arith, c .before .before .before .before .before .before .before .before .before .before .pre), omega arith, refl, searching-start (now (a .l)) (a .log .fields) (a .log .events) (a .at) (now (a .f)) (now (a .table)) (now (a .kinds)) (a .log .rises) (a .start) (a .slots) (c .before .before .before .origin-in .last .0) (c .before .before .before .origin-in .ensures .0))
+    let a = c .before .before .before .before .before .before .before .before .before .args in
+    (omega arith, omega (arith, c .before .before .before .before .before .before .before .before .before .pre), omega arith, refl, searching-start (now (a .l)) (a .log .fields) (a .log .events) (a .at) (now (a .f)) (now (a .table)) (now (a .kinds)) (a .log .rises) (a .start) (a .slots) (c .before .before .before .origin-in .last .0) (c .before .before .before .origin-in .ensures .0))
 
 event-at-requires : tie.Need-event-at-requires Inv-loop μ-loop
 event-at-requires c κs = search needs
@@ -45,8 +45,8 @@ event-at-requires c κs = search needs
 at-event-requires : tie.Need-at-event-requires Inv-loop μ-loop
 at-event-requires c κs =
     let i = c .before .before .before .before .loop .inv in
-    let k : length (c .before .before .before .before .loop .work) ≡ length (now (c .before .before .before .before .before .before .before .before .before .before .before .before .before .before .before .args .work)) = i .3 ∙ c .before .before .before .before .before .before .before .before .origin-in .ensures .1 in
-    (omega (arith, k, c .before .before .before .before .before .before .before .before .before .before .before .before .before .before .before .pre), i .0, i .1, omega (arith, c .before .before .if1 .taken, c .before .before .before .before .before .before .before .before .before .before .before .before .before .before .before .pre))
+    let k : length (c .before .before .before .before .loop .work) ≡ length (now (c .before .before .before .before .before .before .before .before .before .before .before .before .before .before .args .work)) = i .3 ∙ c .before .before .before .before .before .before .before .before .origin-in .ensures .1 in
+    (omega (arith, k, c .before .before .before .before .before .before .before .before .before .before .before .before .before .before .pre), i .0, i .1, omega (arith, c .before .before .if1 .taken, c .before .before .before .before .before .before .before .before .before .before .before .before .before .before .pre))
 
 enum-told : tie.Need-enum-told Inv-loop μ-loop
 enum-told c = search needs
@@ -59,7 +59,7 @@ same-length c = c .before .before .before .before .before .at-event .ensures .1 
 
 returns : tie.Need-returns Inv-loop μ-loop
 returns c =
-    let a = c .before .before .before .before .before .before .before .before .before .before .before .before .before .before .before .before .before .before .before .before .before .args in
+    let a = c .before .before .before .before .before .before .before .before .before .before .before .before .before .before .before .before .before .before .before .before .args in
     let i = c .before .before .before .before .before .before .before .before .before .before .loop in
     let r = searching-found (now (a .l)) (a .log .fields) (a .log .events) (a .at) (now (a .f)) (now (a .table)) (now (a .kinds)) (a .log .rises) (a .start) (a .slots) (i .n) (i .place) (i .half) (i .count) (i .width) (i .work) (i .inv .4) (c .before .before .before .before .before .before .before .before .if1 .taken) (c .before .before .before .before .before .before .before .event-at .result) (c .before .before .before .before .before .before .before .event-at .ensures) (c .before .before .before .before .before .at-event .last .0) (c .before .before .before .before .before .at-event .result) (λ g fm s. c .before .before .before .before .before .at-event .ensures .0 (now (a .table)) (c .before .before .before .before .before .before .before .before .before .before .before .widened .ensures) g fm s) (c .named .result) (c .before .enum-told .given .1) (i .inv .2) (c .named .ensures) in
     (r .0, (r .1, c .before .before .before .before .before .at-event .ensures .1 .1 ∙ c .before .before .before .before .before .before .before .before .before .before .loop .inv .3 ∙ c .before .before .before .before .before .before .before .before .before .before .before .before .before .before .origin-in .ensures .1))
@@ -75,7 +75,7 @@ same-length-2 c = c .before .before .before .before .before .at-event .ensures .
 
 returns-2 : tie.Need-returns-2 Inv-loop μ-loop
 returns-2 c =
-    let a = c .before .before .before .before .before .before .before .before .before .before .before .before .before .before .before .before .before .before .before .before .before .args in
+    let a = c .before .before .before .before .before .before .before .before .before .before .before .before .before .before .before .before .before .before .before .before .args in
     let i = c .before .before .before .before .before .before .before .before .before .before .loop in
     let r = searching-crowded (now (a .l)) (a .log .fields) (a .log .events) (a .at) (now (a .f)) (now (a .table)) (now (a .kinds)) (a .log .rises) (a .start) (a .slots) (i .n) (i .place) (i .half) (i .count) (i .width) (i .work) (i .inv .4) (c .before .before .before .before .before .before .before .before .if1 .taken) (c .before .before .before .before .before .before .before .event-at .result) (c .before .before .before .before .before .before .before .event-at .ensures) (c .before .before .before .before .before .at-event .last .0) (c .before .before .before .before .before .at-event .result) (λ g fm s. c .before .before .before .before .before .at-event .ensures .0 (now (a .table)) (c .before .before .before .before .before .before .before .before .before .before .before .widened .ensures) g fm s) (c .refused .result) (c .before .enum-told2 .given .1) (c .refused .ensures) in
     (r .0, (r .1, c .before .before .before .before .before .at-event .ensures .1 .1 ∙ c .before .before .before .before .before .before .before .before .before .before .loop .inv .3 ∙ c .before .before .before .before .before .before .before .before .before .before .before .before .before .before .origin-in .ensures .1))
@@ -97,7 +97,7 @@ loop-less c = omega (arith, c .onward .ensures .1, c .before .before .before .be
 
 loop-again : tie.Need-loop-again Inv-loop μ-loop
 loop-again c =
-    let a = c .before .before .before .before .before .before .before .before .before .before .before .before .before .before .before .before .before .before .before .before .before .before .before .args in
+    let a = c .before .before .before .before .before .before .before .before .before .before .before .before .before .before .before .before .before .before .before .before .before .before .args in
     let i = c .before .before .before .before .before .before .before .before .before .before .before .before .loop in
     let more = c .before .before .before .outcome .given .0 .0 in
     let fits : more ≤ a .slots = subst (Fits (a .slots)) (c .before .before .before .outcome .given .1) (c .before .before .before .before .before .before .before .at-event .ensures .1 .0) in
@@ -112,7 +112,7 @@ same-length-3 c = c .before .before .before .loop .inv .3 ∙ c .before .before 
 
 returns-3 : tie.Need-returns-3 Inv-loop μ-loop
 returns-3 c =
-    let a = c .before .before .before .before .before .before .before .before .before .before .before .before .before .before .args in
+    let a = c .before .before .before .before .before .before .before .before .before .before .before .before .before .args in
     let i = c .before .before .before .loop in
     let r = searching-over (now (a .l)) (a .log .fields) (a .log .events) (a .at) (now (a .f)) (now (a .table)) (now (a .kinds)) (a .log .rises) (a .start) (a .slots) (i .n) (i .place) (i .half) (i .count) (i .width) (i .work) (i .inv .4) (c .no-run .result) (c .before .if1 .left) (i .inv .2) (c .no-run .ensures) in
     (r .0, (r .1, i .inv .3 ∙ c .before .before .before .before .before .before .before .origin-in .ensures .1))

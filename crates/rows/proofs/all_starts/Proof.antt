@@ -22,13 +22,13 @@ abbrev μ-loop : tie.MeasureT-loop
     log .events - start
 
 loop-holds : tie.Need-loop-holds Inv-loop μ-loop
-loop-holds c = (omega arith, refl, refl, λ g fm given. so-far-none g fm (c .before .before .before .before .before .before .args .slots) (now (c .before .before .before .before .before .before .args .rows)) (c .before .before .before .before .before .before .args .log .first) (given .first-is))
+loop-holds c = (omega arith, refl, refl, λ g fm given. so-far-none g fm (c .before .before .before .before .before .args .slots) (now (c .before .before .before .before .before .args .rows)) (c .before .before .before .before .before .args .log .first) (given .first-is))
 
 one-start-requires : tie.Need-one-start-requires Inv-loop μ-loop
 one-start-requires c κs =
-    let a = c .before .before .before .before .before .before .before .before .before .before .before .args in
+    let a = c .before .before .before .before .before .before .before .before .before .before .args in
     let i = c .before .before .before .before .loop in
-    let p = c .before .before .before .before .before .before .before .before .before .before .before .pre in
+    let p = c .before .before .before .before .before .before .before .before .before .before .pre in
     (omega (arith, p .0, i .inv .1), p .1, p .2, omega (arith, p .3, i .inv .2, c .before .before .if1 .taken))
 
 event-at-requires : tie.Need-event-at-requires Inv-loop μ-loop
@@ -42,10 +42,10 @@ loop-less c = omega arith
 
 loop-again : tie.Need-loop-again Inv-loop μ-loop
 loop-again c =
-    let a = c .before .before .before .before .before .before .before .before .before .before .before .before .before .before .before .before .before .before .args in
+    let a = c .before .before .before .before .before .before .before .before .before .before .before .before .before .before .before .before .before .args in
     let i = c .before .before .before .before .before .before .before .before .before .before .before .loop in
     let h = c .before .before .before .before .before .before .before .before .before .if1 .taken in
-    let k : i .start * 12 + 12 ≤ length (i .rows) = omega (arith, c .before .before .before .before .before .before .before .before .before .before .before .before .before .before .before .before .before .before .pre .3, i .inv .2, h) in
+    let k : i .start * 12 + 12 ≤ length (i .rows) = omega (arith, c .before .before .before .before .before .before .before .before .before .before .before .before .before .before .before .before .before .pre .3, i .inv .2, h) in
     (omega arith, search needs, search needs, λ g fm given. let s = i .inv .3 g fm given in so-far-next g fm (a .slots) (now (a .rows)) (i .rows) (i .start) (i .at) (omega (arith, given .events-are, h)) s _ _ (given-fits g fm (now (a .l)) (a .log) (now (a .f)) (now (a .table)) (now (a .kinds)) (a .tied) given (a .slots) (i .start) h) k (given-next g fm (now (a .l)) (a .log) (now (a .f)) (now (a .table)) (now (a .kinds)) (a .tied) given (i .start) (i .at) (c .event-at .result) h (s .place) (c .event-at .ensures)) (turn-as (c .before .before .before .before .before .before .one-start .result) true _ _ (c .before .if2 .taken) (c .before .before .before .before .before .before .one-start .ensures g fm given (s .place) h)))
 
 same-length : tie.Need-same-length Inv-loop μ-loop
@@ -56,7 +56,7 @@ same-length-2 c = search needs
 
 returns : tie.Need-returns Inv-loop μ-loop
 returns c =
-    let a = c .before .before .before .before .before .before .before .before .before .before .before .before .before .before .before .before .before .args in
+    let a = c .before .before .before .before .before .before .before .before .before .before .before .before .before .before .before .before .args in
     let i = c .before .before .before .before .before .before .before .before .before .before .loop in
     let h = c .before .before .before .before .before .before .before .before .if1 .taken in
     λ g fm given. let s = i .inv .3 g fm given in so-far-crowded g fm (a .slots) (now (a .rows)) (i .rows) (i .start) (i .at) (omega (arith, given .events-are, h)) s _ (turn-as (c .before .before .before .before .before .one-start .result) false _ _ (c .if2 .left) (c .before .before .before .before .before .one-start .ensures g fm given (s .place) h))
@@ -69,7 +69,7 @@ same-length-4 c = search needs
 
 returns-2 : tie.Need-returns-2 Inv-loop μ-loop
 returns-2 c =
-    let a = c .before .before .before .before .before .before .before .before .before .args in
+    let a = c .before .before .before .before .before .before .before .before .args in
     let i = c .before .before .loop in
     let h = c .if1 .left in
     λ g fm given. so-far-all g fm (a .slots) (now (a .rows)) (i .rows) (i .start) (i .at) (omega (arith, given .events-are, h)) (i .inv .3 g fm given)

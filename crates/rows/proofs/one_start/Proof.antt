@@ -29,20 +29,20 @@ same-length c = search needs
 
 returns : tie.Need-returns
 returns c =
-    let a = c .before .before .before .before .before .before .before .before .before .before .before .before .args in
+    let a = c .before .before .before .before .before .before .before .before .before .before .before .args in
     λ g fm given p h. turn-crowded g fm (a .start) (now (a .rows)) (Runs.search (machine g fm) (a .slots) (a .start)) (c .before .before .before .before .search-from .result) (c .before .before .before .before .search-from .ensures .0 g fm (given .setting) (given .log-bytes) (given .fields-are) (given .events-are) p h) (sym (c .before .is-refused .ensures) ∙ c .if1 .taken)
 
 words-of-requires : tie.Need-words-of-requires
 words-of-requires c κs = search needs
 
 mul-a : tie.Need-mul-a
-mul-a c = omega (arith, c .before .before .before .before .before .before .before .before .before .before .before .before .before .before .pre .3, c .before .before .before .before .before .before .before .before .before .before .before .before .before .before .good)
+mul-a c = omega (arith, c .before .before .before .before .before .before .before .before .before .before .before .before .before .pre .3, c .before .before .before .before .before .before .before .before .before .before .before .before .before .good)
 
 add-e : tie.Need-add-e
-add-e c = omega (arith, c .before .before .before .before .before .before .before .before .before .before .before .before .before .before .pre .3, c .before .before .before .before .before .before .before .before .before .before .before .before .before .before .good)
+add-e c = omega (arith, c .before .before .before .before .before .before .before .before .before .before .before .before .before .pre .3, c .before .before .before .before .before .before .before .before .before .before .before .before .before .good)
 
 mul-write-row : tie.Need-mul-write-row
-mul-write-row c = omega (arith, c .before .before .before .before .before .before .before .before .before .before .before .before .before .before .pre .3, c .before .before .before .before .before .before .before .before .before .before .before .before .before .before .good)
+mul-write-row c = omega (arith, c .before .before .before .before .before .before .before .before .before .before .before .before .before .pre .3, c .before .before .before .before .before .before .before .before .before .before .before .before .before .good)
 
 sub-write-row : tie.Need-sub-write-row
 sub-write-row c = search needs
@@ -64,7 +64,7 @@ same-length-3 c = search needs
 
 returns-2 : tie.Need-returns-2
 returns-2 c =
-    let a = c .before .before .before .before .before .before .before .before .before .before .before .before .before .before .before .before .before .before .args in
+    let a = c .before .before .before .before .before .before .before .before .before .before .before .before .before .before .before .before .before .args in
     let r = c .before .before .before .before .before .before .before .before .before .before .search-from .result in
     let ws = c .before .before .before .before .words-of .result in
     let n : length ws ≡ 12 = search needs in

@@ -30,9 +30,6 @@ held-in-requires c κs = search needs
 slice-aggregate-with-formula : tie.Need-slice-aggregate-with-formula
 slice-aggregate-with-formula c = search needs
 
-slice-aggregate-with-formula-2 : tie.Need-slice-aggregate-with-formula-2
-slice-aggregate-with-formula-2 c = search needs
-
 with-formula-requires : tie.Need-with-formula-requires
 with-formula-requires c κs = search needs
 
@@ -63,7 +60,6 @@ with-log-spec =
     enum-told
     held-in-requires
     slice-aggregate-with-formula
-    slice-aggregate-with-formula-2
     with-formula-requires
     returns
     same-length

@@ -1,4 +1,4 @@
--- `machine::clause` meets its contract: by the command byte, its operands read where they stand.
+-- `clauses::clause` meets its contract: by the command byte, its operands read where they stand.
 use denote.Ref.{now}
 use Rattle.interpreter.proofs.CodeWalk.{clause-test, clause-testv, clause-bind}
 use borrow.Author.Needs.{needs}
@@ -11,8 +11,14 @@ add-byte-at c = search needs
 byte-at-requires : tie.Need-byte-at-requires
 byte-at-requires c κs = search needs
 
+slice-aggregate-value-of : tie.Need-slice-aggregate-value-of
+slice-aggregate-value-of c = search needs
+
 value-of-requires : tie.Need-value-of-requires
 value-of-requires c κs = search needs
+
+slice-aggregate-mark-of : tie.Need-slice-aggregate-mark-of
+slice-aggregate-mark-of c = search needs
 
 mark-of-requires : tie.Need-mark-of-requires
 mark-of-requires c κs = search needs
@@ -41,6 +47,9 @@ test-requires c κs = search needs
 add-test-2 : tie.Need-add-test-2
 add-test-2 c = search needs
 
+slice-aggregate-value-of-2 : tie.Need-slice-aggregate-value-of-2
+slice-aggregate-value-of-2 c = search needs
+
 add-byte-at-3 : tie.Need-add-byte-at-3
 add-byte-at-3 c = search needs
 
@@ -60,13 +69,13 @@ bind-requires : tie.Need-bind-requires
 bind-requires c κs = search needs
 
 returns : tie.Need-returns
-returns c = clause-test (now (c .before .before .before .before .before .before .before .before .before .args .f)) (c .before .before .before .before .before .before .before .before .before .args .prior) (c .before .before .before .before .before .before .before .before .before .args .rises) (c .before .before .before .before .before .before .before .before .before .args .event) (c .before .before .before .before .before .before .before .before .before .args .w) (c .before .before .before .before .before .before .before .byte-at .result) (c .before .before .before .before .before .before .value-of .result) (c .before .before .before .before .byte-at2 .result) (c .before .before .before .byte-at3 .result) (c .before .before .before .before .before .mark-of .result) (c .before .before .before .before .before .before .before .byte-at .ensures .0) (c .before .before .before .before .before .before .value-of .ensures) (c .before .before .before .before .before .mark-of .ensures) (c .before .before .before .before .byte-at2 .ensures .0) (c .before .before .before .byte-at3 .ensures .0) (c .before .value-at .result) _ (c .before .before .match .keys1) (c .before .value-at .ensures) (c .test .ensures)
+returns c = clause-test (now (c .before .before .before .before .before .before .before .before .before .before .before .args .f)) (c .before .before .before .before .before .before .before .before .before .before .before .args .t3) (c .before .before .before .before .before .before .before .before .before .before .before .args .t4) (c .before .before .before .before .before .before .before .before .before .before .before .args .t5) (c .before .before .before .before .before .before .before .before .before .before .before .args .w) (c .before .before .before .before .before .before .before .before .before .byte-at .result) (c .before .before .before .before .before .before .before .value-of .result) (c .before .before .before .before .byte-at2 .result) (c .before .before .before .byte-at3 .result) (c .before .before .before .before .before .mark-of .result) (c .before .before .before .before .before .before .before .before .before .byte-at .ensures .0) (c .before .before .before .before .before .before .before .value-of .ensures) (c .before .before .before .before .before .mark-of .ensures) (c .before .before .before .before .byte-at2 .ensures .0) (c .before .before .before .byte-at3 .ensures .0) (c .before .value-at .result) _ (c .before .before .match .keys1) (c .before .value-at .ensures) (c .test .ensures)
 
 returns-2 : tie.Need-returns-2
-returns-2 c = clause-testv (now (c .before .before .before .before .before .before .before .before .before .before .args .f)) (c .before .before .before .before .before .before .before .before .before .before .args .prior) (c .before .before .before .before .before .before .before .before .before .before .args .rises) (c .before .before .before .before .before .before .before .before .before .before .args .event) (c .before .before .before .before .before .before .before .before .before .before .args .w) (c .before .before .before .before .before .before .before .before .byte-at .result) (c .before .before .before .before .before .before .before .value-of .result) (c .before .before .before .before .before .byte-at2 .result) (c .before .before .before .before .byte-at3 .result) (c .before .before .before .before .before .before .mark-of .result) (c .before .before .before .before .before .before .before .before .byte-at .ensures .0) (c .before .before .before .before .before .before .before .value-of .ensures) (c .before .before .before .before .before .before .mark-of .ensures) (c .before .before .before .before .before .byte-at2 .ensures .0) (c .before .before .before .before .byte-at3 .ensures .0) (c .before .before .byte-at4 .result) (c .before .value-of2 .result) _ (c .before .before .before .match .keys2) (c .before .before .byte-at4 .ensures .0) (c .before .value-of2 .ensures) (c .test2 .ensures)
+returns-2 c = clause-testv (now (c .before .before .before .before .before .before .before .before .before .before .before .before .before .args .f)) (c .before .before .before .before .before .before .before .before .before .before .before .before .before .args .t3) (c .before .before .before .before .before .before .before .before .before .before .before .before .before .args .t4) (c .before .before .before .before .before .before .before .before .before .before .before .before .before .args .t5) (c .before .before .before .before .before .before .before .before .before .before .before .before .before .args .w) (c .before .before .before .before .before .before .before .before .before .before .before .byte-at .result) (c .before .before .before .before .before .before .before .before .before .value-of .result) (c .before .before .before .before .before .before .byte-at2 .result) (c .before .before .before .before .before .byte-at3 .result) (c .before .before .before .before .before .before .before .mark-of .result) (c .before .before .before .before .before .before .before .before .before .before .before .byte-at .ensures .0) (c .before .before .before .before .before .before .before .before .before .value-of .ensures) (c .before .before .before .before .before .before .before .mark-of .ensures) (c .before .before .before .before .before .before .byte-at2 .ensures .0) (c .before .before .before .before .before .byte-at3 .ensures .0) (c .before .before .byte-at4 .result) (c .before .value-of2 .result) _ (c .before .before .before .before .match .keys2) (c .before .before .byte-at4 .ensures .0) (c .before .value-of2 .ensures) (c .test2 .ensures)
 
 returns-3 : tie.Need-returns-3
-returns-3 c = clause-bind (now (c .before .before .before .before .before .before .before .before .args .f)) (c .before .before .before .before .before .before .before .before .args .prior) (c .before .before .before .before .before .before .before .before .args .rises) (c .before .before .before .before .before .before .before .before .args .event) (c .before .before .before .before .before .before .before .before .args .w) (c .before .before .before .before .before .before .byte-at .result) (c .before .before .before .before .before .value-of .result) (c .before .before .before .byte-at2 .result) (c .before .before .byte-at3 .result) (c .before .before .before .before .mark-of .result) (c .before .before .before .before .before .before .byte-at .ensures .0) (c .before .before .before .before .before .value-of .ensures) (c .before .before .before .before .mark-of .ensures) (c .before .before .before .byte-at2 .ensures .0) (c .before .before .byte-at3 .ensures .0) _ (c .before .match .rest .0 .1) (c .before .match .rest .1) (c .bind .ensures)
+returns-3 c = clause-bind (now (c .before .before .before .before .before .before .before .before .before .before .args .f)) (c .before .before .before .before .before .before .before .before .before .before .args .t3) (c .before .before .before .before .before .before .before .before .before .before .args .t4) (c .before .before .before .before .before .before .before .before .before .before .args .t5) (c .before .before .before .before .before .before .before .before .before .before .args .w) (c .before .before .before .before .before .before .before .before .byte-at .result) (c .before .before .before .before .before .before .value-of .result) (c .before .before .before .byte-at2 .result) (c .before .before .byte-at3 .result) (c .before .before .before .before .mark-of .result) (c .before .before .before .before .before .before .before .before .byte-at .ensures .0) (c .before .before .before .before .before .before .value-of .ensures) (c .before .before .before .before .mark-of .ensures) (c .before .before .before .byte-at2 .ensures .0) (c .before .before .byte-at3 .ensures .0) _ (c .before .match .rest .0 .1) (c .before .match .rest .1) (c .bind .ensures)
 
 pub clause-spec : {M : Type 1} → statement M
 clause-spec =
@@ -74,7 +83,9 @@ clause-spec =
     (tie.spec
     add-byte-at
     byte-at-requires
+    slice-aggregate-value-of
     value-of-requires
+    slice-aggregate-mark-of
     mark-of-requires
     add-byte-at-2
     byte-at-requires-2
@@ -84,6 +95,7 @@ clause-spec =
     value-at-requires
     test-requires
     add-test-2
+    slice-aggregate-value-of-2
     add-byte-at-3
     byte-at-requires-4
     value-of-requires-2

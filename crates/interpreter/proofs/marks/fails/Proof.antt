@@ -17,8 +17,8 @@ shared-slice-read-wide c = search needs
 wide-requires : tie.Need-wide-requires
 wide-requires c κs = search needs
 
-value-in-requires : tie.Need-value-in-requires
-value-in-requires c κs = search needs
+value-of-requires : tie.Need-value-of-requires
+value-of-requires c κs = search needs
 
 add-wide-2 : tie.Need-add-wide-2
 add-wide-2 c = search needs
@@ -39,7 +39,7 @@ holds-requires : tie.Need-holds-requires
 holds-requires c κs = search needs
 
 returns-2 : tie.Need-returns-2
-returns-2 c = fails-read (now (c .before .before .before .before .before .before .before .before .before .before .args .f)) (c .before .before .before .before .before .before .before .before .before .before .args .place) (now (c .before .before .before .before .before .before .before .before .before .before .args .event)) (c .before .before .before .before .before .wide .result) (c .before .before .before .before .value-in .result) (c .before .before .wide2 .result) (c .before .value-inside .result) (c .before .before .before .before .before .wide .ensures .0) (c .before .before .before .before .value-in .ensures) (c .before .before .wide2 .ensures .0) (c .before .value-inside .ensures) (c .before .before .before .before .before .before .before .before .before .before .args .command) (c .holds .result) (c .before .before .before .before .before .before .before .if1 .left) (c .holds .ensures)
+returns-2 c = fails-read (now (c .before .before .before .before .before .before .before .before .before .before .args .f)) (c .before .before .before .before .before .before .before .before .before .before .args .place) (now (c .before .before .before .before .before .before .before .before .before .before .args .event)) (c .before .before .before .before .before .wide .result) (c .before .before .before .before .value-of .result) (c .before .before .wide2 .result) (c .before .value-inside .result) (c .before .before .before .before .before .wide .ensures .0) (c .before .before .before .before .value-of .ensures) (c .before .before .wide2 .ensures .0) (c .before .value-inside .ensures) (c .before .before .before .before .before .before .before .before .before .before .args .command) (c .holds .result) (c .before .before .before .before .before .before .before .if1 .left) (c .holds .ensures)
 
 pub fails-spec : {M : Type 1} → statement M
 fails-spec =
@@ -49,7 +49,7 @@ fails-spec =
     add-wide
     shared-slice-read-wide
     wide-requires
-    value-in-requires
+    value-of-requires
     add-wide-2
     shared-slice-read-wide-2
     wide-requires-2

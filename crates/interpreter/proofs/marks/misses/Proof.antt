@@ -14,8 +14,8 @@ shared-slice-read-wide c = search needs
 wide-requires : tie.Need-wide-requires
 wide-requires c κs = search needs
 
-value-in-requires : tie.Need-value-in-requires
-value-in-requires c κs = search needs
+value-of-requires : tie.Need-value-of-requires
+value-of-requires c κs = search needs
 
 add-wide-2 : tie.Need-add-wide-2
 add-wide-2 c = search needs
@@ -35,14 +35,14 @@ value-inside-requires c κs = search needs
 missed-requires : tie.Need-missed-requires
 missed-requires c κs = search needs
 
-rises-in-requires : tie.Need-rises-in-requires
-rises-in-requires c κs = search needs
+mark-of-requires : tie.Need-mark-of-requires
+mark-of-requires c κs = search needs
 
 both-requires : tie.Need-both-requires
 both-requires c κs = search needs
 
 returns : tie.Need-returns
-returns c = misses-read (now (c .before .before .before .before .before .before .before .before .before .before .before .before .args .f)) (c .before .before .before .before .before .before .before .before .before .before .before .before .args .place) (now (c .before .before .before .before .before .before .before .before .before .before .before .before .args .event)) (c .before .before .before .before .before .before .before .wide .result) (c .before .before .before .before .before .before .value-in .result) (c .before .before .before .before .wide2 .result) (c .before .before .before .value-inside .result) (c .before .before .before .before .before .before .before .wide .ensures .0) (c .before .before .before .before .before .before .value-in .ensures) (c .before .before .before .before .wide2 .ensures .0) (c .before .before .before .value-inside .ensures) (now (c .before .before .before .before .before .before .before .before .before .before .before .before .args .rises)) (c .before .rises-in .result) (c .before .before .missed .result) (c .both .result) (c .before .rises-in .ensures) (c .before .before .missed .ensures) (c .both .ensures)
+returns c = misses-read (now (c .before .before .before .before .before .before .before .before .before .before .before .before .args .f)) (c .before .before .before .before .before .before .before .before .before .before .before .before .args .place) (now (c .before .before .before .before .before .before .before .before .before .before .before .before .args .event)) (c .before .before .before .before .before .before .before .wide .result) (c .before .before .before .before .before .before .value-of .result) (c .before .before .before .before .wide2 .result) (c .before .before .before .value-inside .result) (c .before .before .before .before .before .before .before .wide .ensures .0) (c .before .before .before .before .before .before .value-of .ensures) (c .before .before .before .before .wide2 .ensures .0) (c .before .before .before .value-inside .ensures) (now (c .before .before .before .before .before .before .before .before .before .before .before .before .args .rises)) (c .before .mark-of .result) (c .before .before .missed .result) (c .both .result) (c .before .mark-of .ensures) (c .before .before .missed .ensures) (c .both .ensures)
 
 pub misses-spec : {M : Type 1} → statement M
 misses-spec =
@@ -51,13 +51,13 @@ misses-spec =
     add-wide
     shared-slice-read-wide
     wide-requires
-    value-in-requires
+    value-of-requires
     add-wide-2
     shared-slice-read-wide-2
     wide-requires-2
     add-value-inside
     value-inside-requires
     missed-requires
-    rises-in-requires
+    mark-of-requires
     both-requires
     returns)

@@ -1,4 +1,4 @@
--- `machine::leaf` meets its contract: a variable's mark, or true.
+-- `trends::leaf` meets its contract: a variable's mark, or true.
 use denote.Ref.{now}
 use Rattle.interpreter.proofs.CodeTrend.{leaf-variable, leaf-other}
 use borrow.Author.Needs.{needs}
@@ -11,6 +11,9 @@ byte-at-requires c κs = search needs
 leaf-used-requires : tie.Need-leaf-used-requires
 leaf-used-requires c κs = search needs
 
+slice-aggregate-mark-of : tie.Need-slice-aggregate-mark-of
+slice-aggregate-mark-of c = search needs
+
 byte-at-requires-2 : tie.Need-byte-at-requires-2
 byte-at-requires-2 c κs = search needs
 
@@ -18,10 +21,10 @@ mark-of-requires : tie.Need-mark-of-requires
 mark-of-requires c κs = search needs
 
 returns : tie.Need-returns
-returns c = leaf-variable (c .before .before .before .before .before .before .args .marks) (now (c .before .before .before .before .before .before .args .part)) (c .before .before .before .before .byte-at .result) (c .before .byte-at2 .result) _ _ (c .before .before .before .before .byte-at .ensures .0) (c .before .before .if1 .taken) (c .before .byte-at2 .ensures .0) (c .mark-of .ensures) (c .before .before .before .leaf-used .ensures)
+returns c = leaf-variable (c .before .before .before .before .before .before .before .args .t2) (now (c .before .before .before .before .before .before .before .args .part)) (c .before .before .before .before .before .byte-at .result) (c .before .byte-at2 .result) _ _ (c .before .before .before .before .before .byte-at .ensures .0) (c .before .before .before .if1 .taken) (c .before .byte-at2 .ensures .0) (c .mark-of .ensures) (c .before .before .before .before .leaf-used .ensures)
 
 returns-2 : tie.Need-returns-2
-returns-2 c = leaf-other (c .before .before .before .before .args .marks) (now (c .before .before .before .before .args .part)) (c .before .before .byte-at .result) _ (c .before .before .byte-at .ensures .0) (c .if1 .left) (c .before .leaf-used .ensures)
+returns-2 c = leaf-other (c .before .before .before .before .args .t2) (now (c .before .before .before .before .args .part)) (c .before .before .byte-at .result) _ (c .before .before .byte-at .ensures .0) (c .if1 .left) (c .before .leaf-used .ensures)
 
 pub leaf-spec : {M : Type 1} → statement M
 leaf-spec =
@@ -29,6 +32,7 @@ leaf-spec =
     (tie.spec
     byte-at-requires
     leaf-used-requires
+    slice-aggregate-mark-of
     byte-at-requires-2
     mark-of-requires
     returns

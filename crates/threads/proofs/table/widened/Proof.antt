@@ -1,15 +1,15 @@
 -- `threads::widened` meets its contract: after i turns the first i entries of both halves are copied.
-use borrow.Author.Needs.{needs}
-use native.Mathlib.Omega.{arith}
-use Prim.Native.Nat.{_-_}
-use mathlib.Core.Path.{refl}
-use denote.Ref.{now}
 use Rattle.threads.proofs.Marking.{Copied, copied-next}
+use lib.ListN.{getD}
+use denote.Ref.{now}
+use mathlib.Core.Path.{refl}
+use Prim.Native.Nat.{_-_}
+use native.Mathlib.Omega.{arith}
+use borrow.Author.Needs.{needs}
 use Rattle.threads.proofs.table.widened.Statement.{statement}
 use Rattle.threads.proofs.table.widened.Tie as tie
 use Rattle.threads.proofs.table.widened.Reads as reads
 use Rattle.threads.proofs.table.widened.Lts as lts
-use Rattle.threads.proofs.table.entry.Reads as entry-reads
 
 abbrev Inv-loop : tie.InvT-loop
 Inv-loop steps table₀ i₀ table i = Copied steps table i
@@ -20,20 +20,29 @@ abbrev μ-loop : tie.MeasureT-loop
 loop-holds : tie.Need-loop-holds Inv-loop μ-loop
 loop-holds c = record { sized = refl; most = omega arith; first = λ i l. absurd (omega (arith, l)); second = λ i l. absurd (omega (arith, l)) }
 
-entry-requires : tie.Need-entry-requires Inv-loop μ-loop
-entry-requires c κs = search needs
-
 mul-table : tie.Need-mul-table Inv-loop μ-loop
 mul-table c = search needs
+
+element-copy-out-table : tie.Need-element-copy-out-table Inv-loop μ-loop
+element-copy-out-table c = search needs
+
+mul-table-2 : tie.Need-mul-table-2 Inv-loop μ-loop
+mul-table-2 c = search needs
 
 array-write-table : tie.Need-array-write-table Inv-loop μ-loop
 array-write-table c = search needs
 
+mul-table-3 : tie.Need-mul-table-3 Inv-loop μ-loop
+mul-table-3 c = search needs
+
+element-copy-out-table-2 : tie.Need-element-copy-out-table-2 Inv-loop μ-loop
+element-copy-out-table-2 c = search needs
+
 add-table : tie.Need-add-table Inv-loop μ-loop
 add-table c = search needs
 
-mul-table-2 : tie.Need-mul-table-2 Inv-loop μ-loop
-mul-table-2 c = search needs
+mul-table-4 : tie.Need-mul-table-4 Inv-loop μ-loop
+mul-table-4 c = search needs
 
 array-write-table-2 : tie.Need-array-write-table-2 Inv-loop μ-loop
 array-write-table-2 c = search needs
@@ -45,7 +54,7 @@ loop-less : tie.Need-loop-less Inv-loop μ-loop
 loop-less c = search needs
 
 loop-again : tie.Need-loop-again Inv-loop μ-loop
-loop-again c = copied-next (now (c .before .before .before .before .args .steps)) (c .before .before .loop .table) (c .before .before .loop .i) (c .entry .result) (c .before .loop-test .taken) (c .entry .ensures) (c .before .before .loop .inv)
+loop-again c = copied-next (now (c .before .before .before .before .args .steps)) (c .before .before .before .loop .table) (c .before .before .before .loop .i) (getD (now (c .before .before .before .before .args .steps)) (c .before .before .before .loop .i) 0) (c .before .before .loop-test .taken) refl (c .before .before .before .loop .inv)
 
 returns : tie.Need-returns Inv-loop μ-loop
 returns c =
@@ -59,11 +68,14 @@ widened-spec =
     Inv-loop
     μ-loop
     loop-holds
-    entry-requires
     mul-table
-    array-write-table
-    add-table
+    element-copy-out-table
     mul-table-2
+    array-write-table
+    mul-table-3
+    element-copy-out-table-2
+    add-table
+    mul-table-4
     array-write-table-2
     add-i
     loop-less

@@ -1,9 +1,12 @@
--- `marks::value_inside` meets its contract: byte by byte.
+-- `base::value_inside` meets its contract: byte by byte.
+use Rattle.base.specs.Value.{valueAt}
 use native.Mathlib.Omega.{arith}
-use Rattle.base.specs.Value.{valueAt}
 use borrow.Author.Needs.{needs}
-use Rattle.interpreter.proofs.marks.value_inside.Statement.{statement}
-use Rattle.interpreter.proofs.marks.value_inside.Tie as tie
+use Rattle.base.proofs.value_inside.Statement.{statement}
+use Rattle.base.proofs.value_inside.Tie as tie
+use Rattle.base.proofs.value_inside.Reads as reads
+use Rattle.base.proofs.value_inside.Lts as lts
+use Rattle.base.proofs.wide.Reads as wide-reads
 
 shared-slice-read-wide : tie.Need-shared-slice-read-wide
 shared-slice-read-wide c = search needs
