@@ -1,14 +1,14 @@
 -- A value and its 4 bytes determine each other; past the end there are only zeros.
 use Prim.Native.Nat.{ℕ, zero, suc, _+_, _*_, _/_, _%_, _<_, _≤_}
-use mathlib.Core.Path.{_≡_, refl, ap, sym, _∙_}
+use mathlib.Core.Path.{_≡_}
 use mathlib.Core.List.{List, [], _∷_, _++_}
 use native.Mathlib.Omega.{arith}
 use native.Mathlib.Nat.{add-zero, add-assoc}
-use lib.ListN.{length, getD, take, drop, List·getD-eq-default}
+use lib.ListN.{length, getD, drop, List·getD-eq-default}
 use lib.Seq.{getD-append-add}
 use Rattle.base.proofs.Lists.{drop-next}
 use Rattle.base.specs.Value.{bytesOf, valueAt}
-use Rattle.base.specs.Lists.{All, Bytes}
+use Rattle.base.specs.Lists.{Bytes}
 
 -- past the end the value is 0
 pub value-past : (l : List ℕ) (at : ℕ) → length l ≤ at → valueAt l at ≡ 0

@@ -1,9 +1,9 @@
 -- The reader's answer is the definition's: by the walk over the file to END, and what is judged after it.
-use Prim.Native.Nat.{ℕ, zero, suc, _+_, _-_, _*_, _^_, _<_, _≤_}
+use Prim.Native.Nat.{ℕ, suc, _+_, _-_, _*_, _^_, _<_, _≤_}
 use mathlib.Core.Path.{_≡_, refl, sym, ap, _∙_, subst}
 use mathlib.Core.Bool.{Bool, true, false, cond}
-use mathlib.Core.Logic.{_⊎_, inl, inr, ⊎-elim}
-use mathlib.Core.List.{List, [], _∷_, _++_, map, flatMap}
+use mathlib.Core.Logic.{_⊎_, ⊎-elim}
+use mathlib.Core.List.{List, [], _∷_, flatMap}
 use mathlib.Core.Option.{Option, none, some}
 use native.Mathlib.Omega.{arith}
 use native.Mathlib.Nat.{zero-add}
@@ -11,7 +11,7 @@ use native.Mathlib.Numerals.{add-one}
 use borrow.Author.Tests.{lt-ltb}
 use lib.Dec.{ltb}
 use lib.ListN.{length, getD, drop, replicate, length-append, length-drop}
-use Rattle.base.specs.Lists.{All, Bytes, pad}
+use Rattle.base.specs.Lists.{Bytes, pad}
 use Rattle.event_log.specs.Log.{Kind}
 use Rattle.refusal.specs.declared.File.the-variants.{Formula as InFormula}
 use Rattle.refusal.specs.declared.Refusal.{Refusal}
@@ -20,19 +20,16 @@ use Rattle.formula_reader.specs.declared.Draft.{Draft}
 use Rattle.formula_reader.specs.declared.Scan.{Scan}
 use Rattle.formula_reader.specs.declared.Verdict.{Verdict}
 use Rattle.formula_reader.specs.declared.Verdict.the-variants.{Accepted, Refused}
-use Rattle.formula_reader.specs.declared.FormulaReading.{FormulaReading}
 use Rattle.formula.specs.Formula.{TEST, TESTV, BIND, State, Formula}
-use Rattle.formula.specs.Encode.{Command, TIED, STATE, STEP, CLAUSE, GUARD, kindByte, encodeCommand, commands}
-use Rattle.formula.specs.Unbound.{edgesFrom, unbound, isUnbound}
-use Rattle.formula.specs.Correct.{final, deadStart}
+use Rattle.formula.specs.Encode.{Command, TIED, STATE, STEP, CLAUSE, GUARD, encodeCommand, commands}
+use Rattle.formula.specs.Unbound.{edgesFrom, isUnbound}
+use Rattle.formula.specs.Correct.{deadStart}
 use Rattle.formula.specs.Lookup.{stepTable, tiedMask}
-use Rattle.formula.specs.Read.{Reading, accepted, refused, Summary, start, gatherAll, assemble, firstAbsent, firstUnbound, refusedAt, judge, afterEnd, seenAfter, readFormula}
+use Rattle.formula.specs.Read.{accepted, refused, Summary, start, assemble, firstAbsent, firstUnbound, refusedAt, judge, afterEnd, seenAfter, readFormula}
 use Rattle.formula_reader.specs.Places.{nowhere, lowestOf}
-use Rattle.formula_reader.specs.Take.{told}
 use Rattle.formula_reader.specs.Scan.{emptyDraft, scanFile, Scanned}
-use Rattle.formula_reader.specs.Reach.{reachOf, Free}
+use Rattle.formula_reader.specs.Reach.{Free}
 use Rattle.formula_reader.specs.Answer.{maskOf, kindsOf, answerOf, acceptedWith, judgedWith}
-use Rattle.formula.proofs.Commands.{Operands, Ended}
 use Rattle.formula.proofs.Gather.{commands-assemble}
 use Rattle.formula.proofs.Reading.{advances, states-passed, reached-start, Complete, reached-end}
 use Rattle.formula.proofs.Table.{fill, fill-table}

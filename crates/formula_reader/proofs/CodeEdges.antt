@@ -1,8 +1,8 @@
 -- The steps that the walk keeps are those of the formula, and the states reached over them are the definition's.
 use Prim.Native.Nat.{ℕ, zero, suc, _+_, _-_, _*_, _<_, _≤_}
 use mathlib.Core.Path.{_≡_, refl, sym, ap, _∙_, subst}
-use mathlib.Core.Bool.{Bool, true, false, cond, not, _||_, _&&_}
-use mathlib.Core.Logic.{_⊎_, inl, inr, ⊎-elim}
+use mathlib.Core.Bool.{Bool, true, false, _||_}
+use mathlib.Core.Logic.{_⊎_, ⊎-elim}
 use mathlib.Core.List.{List, [], _∷_, _++_, map, flatMap, append-assoc, append-nil}
 use mathlib.Core.Option.{Option, none, some}
 use native.Mathlib.Omega.{arith}
@@ -16,7 +16,7 @@ use Rattle.base.specs.Lists.{All}
 use Rattle.formula_reader.specs.declared.Draft.{Draft}
 use Rattle.formula_reader.specs.declared.Summary.{Summary as Tally}
 use Rattle.formula.specs.Formula.{Expr, Clause, TEST, TESTV, BIND, Step, State, Formula}
-use Rattle.formula.specs.Encode.{Command, TIED, STATE, STEP, CLAUSE, GUARD, guardCommands, stepCommands, stateCommands, commands}
+use Rattle.formula.specs.Encode.{Command, TIED, STATE, STEP, CLAUSE, guardCommands, stepCommands, stateCommands, commands}
 use Rattle.formula.specs.Correct.{StateFits}
 use Rattle.formula.specs.Unbound.{binds, Edge, edgesFrom, mark, round, rounds, unbound}
 use Rattle.formula_reader.specs.Scan.{emptyDraft}

@@ -1,12 +1,10 @@
 -- The bytes of expression commands.
 use Prim.Native.Nat.{ℕ, zero, suc, _+_, _-_, _<_, _≤_}
-use mathlib.Core.Path.{_≡_, refl, sym, ap, _∙_, subst}
-use mathlib.Core.Bool.{Bool, true, false, cond}
-use mathlib.Core.List.{List, [], _∷_}
+use mathlib.Core.Path.{_≡_, refl, subst}
+use mathlib.Core.Bool.{false}
 use native.Mathlib.Omega.{arith}
 use borrow.Author.Tests.{ne-eqb}
 use lib.Dec.{eqb}
-use Rattle.formula_reader.specs.declared.Takes.{Takes}
 use Rattle.formula_reader.specs.declared.Takes.the-variants.{Operands, Foreign as TakesNothing}
 use Rattle.formula.specs.Read.{exprOpcode}
 use Rattle.formula_reader.specs.Prefix.{takes}

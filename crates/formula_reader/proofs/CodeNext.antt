@@ -1,28 +1,27 @@
 -- The next command on bytes alone is the definition's, and what is known of a command that was taken.
 use Prim.Native.Nat.{ℕ, zero, suc, _+_, _-_, _<_, _≤_}
-use mathlib.Core.Path.{_≡_, refl, sym, ap, _∙_, subst}
+use mathlib.Core.Path.{_≡_, refl, ap}
 use mathlib.Core.Bool.{Bool, true, false, cond, not, _&&_}
-use mathlib.Core.List.{List, [], _∷_, _++_}
+use mathlib.Core.List.{List, [], _∷_}
 use native.Mathlib.Omega.{arith}
 use native.Mathlib.Numerals.{one-add}
 use borrow.Author.Tests.{ltb-true, ltb-false}
-use lib.Dec.{ltb, eqb}
-use lib.ListN.{length, getD, drop}
+use lib.Dec.{ltb}
+use lib.ListN.{length, getD}
 use Rattle.base.specs.Value.{bytesOf, valueAt}
 use Rattle.refusal.specs.declared.File.the-variants.{Formula as InFormula}
 use Rattle.refusal.specs.declared.Refusal.{Refusal}
 use Rattle.refusal.specs.declared.Refusal.the-variants.{CutShort, Foreign, Value, Surplus}
 use Rattle.formula_reader.specs.declared.Summary.{Summary as Counts}
 use Rattle.formula_reader.specs.declared.Command.{Command as Kept}
-use Rattle.formula_reader.specs.declared.Command.the-variants.{State, Step, Test, Testv, Bind, Tied}
-use Rattle.formula_reader.specs.declared.Next.{Next as Read}
+use Rattle.formula_reader.specs.declared.Command.the-variants.{State}
 use Rattle.formula_reader.specs.declared.Next.the-variants.{Taken, Bad}
-use Rattle.formula.specs.Formula.{Clause, TEST, TESTV, BIND}
-use Rattle.formula.specs.Encode.{Command, TIED, STATE, STEP, CLAUSE, GUARD, kindByte, encodeExpr, encodeClause, encodeCommand}
+use Rattle.formula.specs.Formula.{TEST, TESTV, BIND}
+use Rattle.formula.specs.Encode.{Command, TIED, STATE, STEP, CLAUSE, GUARD, kindByte, encodeClause, encodeCommand}
 use Rattle.formula.specs.Read.{Summary, Opcode, end-op, state-op, step-op, test-op, testv-op, bind-op, guard-op, tied-op, other-op, opcode, allowed, room, operatorOf, kindOf, ExprNext, expression, failed, readExpr, Next, command, end, bad, operands, guardOf, operandsOf, next}
 use Rattle.formula_reader.specs.Prefix.{shape}
-use Rattle.formula_reader.specs.Take.{told, opcodeShape, commandShape, guardNoted, NextEnd, goes-on, ends, breaks, nextEnd, nextShape, allowedIn, roomIn, operandsAt, stateAt, stepAt, tiedAt, testAt, testvAt, bindAt, guardAt, takenAt, nextAt}
-use Rattle.formula_reader.proofs.CodeGuard.{ltb-suc, suc-eqb, Vars, Facts, Fact, read-fact}
+use Rattle.formula_reader.specs.Take.{told, opcodeShape, commandShape, guardNoted, NextEnd, breaks, nextEnd, nextShape, allowedIn, roomIn, operandsAt, stateAt, stepAt, tiedAt, testAt, testvAt, bindAt, guardAt, takenAt, nextAt}
+use Rattle.formula_reader.proofs.CodeGuard.{ltb-suc, suc-eqb, Vars, Fact, read-fact}
 
 -- a kind's byte names it
 kind-of : (v : ℕ) → v < 4 → kindByte (kindOf v) ≡ v

@@ -1,25 +1,21 @@
 -- What the walk gathers is what the definition assembles: the table, the kinds, the tied variables, the first absent state.
-use Prim.Native.Nat.{ℕ, zero, suc, _+_, _-_, _*_, _<_, _≤_}
+use Prim.Native.Nat.{ℕ, _+_, _-_, _<_}
 use mathlib.Core.Path.{_≡_, refl, sym, ap, _∙_, subst}
-use mathlib.Core.Bool.{Bool, true, false, cond, not, _||_}
-use mathlib.Core.Logic.{⊎-elim}
-use mathlib.Core.List.{List, [], _∷_, _++_, map, append-assoc, append-nil}
-use mathlib.Core.Option.{Option, none, some}
+use mathlib.Core.Bool.{Bool, true, false, cond, _||_}
+use mathlib.Core.List.{List, [], _∷_, _++_, map, append-nil}
 use native.Mathlib.Omega.{arith}
-use native.Mathlib.Numerals.{add-one}
 use native.Mathlib.Nat.{add-zero}
-use native.Mathlib.Decide.{decLt}
-use borrow.Author.Tests.{eq-eqb, ne-eqb, eqb-true, eqb-false}
-use lib.Dec.{ltb, eqb}
-use lib.ListN.{length, getD, set, replicate, length-append, length-set, getD-replicate}
+use borrow.Author.Tests.{eqb-true, eqb-false}
+use lib.Dec.{eqb}
+use lib.ListN.{length, getD, set, length-append, length-set, getD-replicate}
 use lib.Seq.{getD-set-same, getD-set-other, append-snoc}
-use Rattle.base.specs.Lists.{All, pad}
+use Rattle.base.specs.Lists.{pad}
 use Rattle.base.proofs.Lists.{set-pad}
 use Rattle.formula_reader.specs.declared.Draft.{Draft}
 use Rattle.formula.specs.Formula.{TEST, TESTV, BIND, State}
 use Rattle.formula.specs.Encode.{Command, TIED, STATE, STEP, CLAUSE, GUARD, kindByte, encodeCommand}
 use Rattle.formula.specs.Lookup.{isTied, maskFrom}
-use Rattle.formula.specs.Read.{Summary, start, advance, gatherAll}
+use Rattle.formula.specs.Read.{advance, gatherAll}
 use Rattle.formula_reader.specs.Take.{told}
 use Rattle.formula_reader.specs.Scan.{emptyDraft}
 use Rattle.formula_reader.specs.Answer.{maskOf}

@@ -1,15 +1,14 @@
 -- The walk over the commands of a file, one command at a time, and the counts on its way.
 use Prim.Native.Nat.{ℕ, zero, suc, _+_, _-_, _*_, _<_, _≤_}
 use mathlib.Core.Path.{_≡_, refl, sym, ap, _∙_, subst}
-use mathlib.Core.Bool.{Bool, true, false}
+use mathlib.Core.Bool.{Bool}
 use mathlib.Core.List.{List, [], _∷_}
 use native.Mathlib.Omega.{arith}
 use mathlib.Core.Logic.{⊎-elim}
 use denote.Enum.Declared.{tagOf}
 use types.Run.{OneOf}
-use lib.ListN.{length, getD, take, drop, length-drop}
+use lib.ListN.{length, take, drop, length-drop}
 use Rattle.formula_reader.proofs.Next as NextType
-use Rattle.refusal.specs.declared.Refusal.{Refusal}
 use Rattle.formula_reader.specs.declared.Summary.{Summary as Counts}
 use Rattle.formula_reader.specs.declared.Draft.{Draft}
 use Rattle.formula_reader.specs.declared.Scan.{Scan}
@@ -23,7 +22,7 @@ use Rattle.formula.specs.Read.{Next, command, end, bad, next}
 use Rattle.formula_reader.specs.Take.{told, commandShape, NextEnd, goes-on, ends, breaks, nextEnd, nextShape}
 use Rattle.formula_reader.specs.Scan.{Counted, Ready, Within, advanceBy, kindsWith, tableWith, tiesWith, countWith, fromWith, toWith, boundWith, ownWith, placesWith, added, emptyDraft, arrived, finishedWith, onward, nextFrom, scanFrom, scanFile, Scanned}
 use Rattle.formula_reader.proofs.CodeGuard.{part-rest}
-use Rattle.formula_reader.proofs.CodeNext.{Fits, CommandFacts, NextFacts, next-facts}
+use Rattle.formula_reader.proofs.CodeNext.{Fits, NextFacts, next-facts}
 
 -- the counts stay within theirs
 pub counted-on : (s : Counts) (c : Kept) → Counted s → Ready s c → Counted (advanceBy s c)

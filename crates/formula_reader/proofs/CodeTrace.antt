@@ -1,14 +1,13 @@
 -- The walk gathers the commands that the definition reads: both end at END behind the same commands, or with the same refusal.
-use Prim.Native.Nat.{ℕ, zero, suc, _+_, _-_, _<_, _≤_}
-use mathlib.Core.Path.{_≡_, refl, sym, ap, _∙_, subst}
-use mathlib.Core.Bool.{Bool, true, false}
+use Prim.Native.Nat.{ℕ, zero, suc, _+_, _-_}
+use mathlib.Core.Path.{_≡_, refl, sym, ap, _∙_}
 use mathlib.Core.Logic.{_⊎_, inl, inr, ⊎-elim}
 use mathlib.Core.List.{List, [], _∷_, _++_, flatMap}
 use native.Mathlib.Omega.{arith}
 use native.Mathlib.Nat.{zero-add}
 use native.Mathlib.Numerals.{add-one}
 use lib.Dec.{ltb}
-use lib.ListN.{length, getD, drop, length-append}
+use lib.ListN.{length, drop, length-append}
 use lib.Seq.{drop-append-seam}
 use Rattle.base.specs.Lists.{Bytes}
 use Rattle.refusal.specs.declared.File.the-variants.{Formula as InFormula}
@@ -16,15 +15,13 @@ use Rattle.refusal.specs.declared.Refusal.{Refusal}
 use Rattle.refusal.specs.declared.Refusal.the-variants.{CutShort}
 use Rattle.formula_reader.specs.declared.Draft.{Draft}
 use Rattle.formula_reader.specs.declared.Scan.{Scan}
-use Rattle.formula_reader.specs.declared.Verdict.the-variants.{Accepted, Refused}
-use Rattle.formula_reader.specs.declared.Next.the-variants.{Taken as TakenNext, End, Bad}
-use Rattle.formula_reader.specs.declared.Summary.{Summary as Tally}
+use Rattle.formula_reader.specs.declared.Verdict.the-variants.{Refused}
 use Rattle.formula.specs.Formula.{TEST, TESTV, BIND, StateKind, ordinary, committed, accept, reject}
 use Rattle.formula.specs.Encode.{Command, TIED, STATE, STEP, CLAUSE, GUARD, kindByte, encodeCommand}
 use Rattle.formula.specs.Correct.{final}
-use Rattle.formula.specs.Read.{Reading, refused, Summary, start, advance, Next, command, end, bad, next, assemble, afterEnd, follow, readFrom}
+use Rattle.formula.specs.Read.{refused, Summary, start, advance, Next, command, end, bad, next, assemble, afterEnd, follow, readFrom}
 use Rattle.formula_reader.specs.Take.{told, commandShape, guardNoted, nextShape}
-use Rattle.formula_reader.specs.Scan.{advanceBy, added, emptyDraft, arrived, onward, nextFrom, scanFrom}
+use Rattle.formula_reader.specs.Scan.{added, emptyDraft, arrived, onward, nextFrom, scanFrom}
 use Rattle.formula.proofs.Basics.{bytes-drop}
 use Rattle.formula.proofs.Commands.{Taken, Ended, Takes, next-taken}
 use Rattle.formula.proofs.Reading.{advances, Reached, reached-next}

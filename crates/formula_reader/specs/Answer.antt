@@ -12,7 +12,7 @@ use Rattle.formula_reader.specs.declared.Draft.{Draft}
 use Rattle.formula_reader.specs.declared.Verdict.{Verdict}
 use Rattle.formula_reader.specs.declared.Verdict.the-variants.{Accepted, Refused}
 use Rattle.formula_reader.specs.declared.FormulaReading.{FormulaReading}
-use Rattle.formula.specs.Formula.{State, Formula}
+use Rattle.formula.specs.Formula.{State}
 use Rattle.formula.specs.Encode.{kindByte}
 use Rattle.formula.specs.Lookup.{stepTable, tiedMask}
 use Rattle.formula.specs.Read.{Reading, accepted, refused}

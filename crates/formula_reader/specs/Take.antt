@@ -1,13 +1,12 @@
 -- The next command as its reader sees it: what is kept of a command, and the same tests on bytes alone.
-use Prim.Native.Nat.{ℕ, zero, suc, _+_, _-_}
+use Prim.Native.Nat.{ℕ, _+_, _-_}
 use mathlib.Core.Bool.{Bool, true, false, cond, not, _&&_}
-use mathlib.Core.List.{List, [], _∷_}
+use mathlib.Core.List.{List}
 use lib.Dec.{ltb, eqb}
 use lib.ListN.{length, getD, drop}
 use Rattle.refusal.specs.declared.File.the-variants.{Formula as InFormula}
 use Rattle.refusal.specs.declared.Refusal.{Refusal}
 use Rattle.refusal.specs.declared.Refusal.the-variants.{CutShort, Foreign, Value, Surplus}
-use Rattle.formula_reader.specs.declared.Prefix.{Prefix}
 use Rattle.formula_reader.specs.declared.Summary.{Summary as Counts}
 use Rattle.formula_reader.specs.declared.Opcode.{Opcode as Named}
 use Rattle.formula_reader.specs.declared.Opcode.the-variants.{End as NamedEnd, State as NamedState, Step as NamedStep, Test as NamedTest, Testv as NamedTestv, Bind as NamedBind, Guard as NamedGuard, Tied as NamedTied, Other as NamedOther}

@@ -10,7 +10,6 @@ use lib.Dec.{eqb, leb}
 use Rattle.base.specs.Value.{valueAt}
 use Rattle.interpreter.specs.declared.Configuration.{Configuration}
 use Rattle.interpreter.specs.declared.Fired.{Fired}
-use Rattle.interpreter.specs.declared.marks.Mark.{Mark}
 use Rattle.interpreter.specs.declared.Walked.{Walked}
 use Rattle.interpreter.specs.Bytes.{holdsBy, missedBy, isClause, tested, holding, bound, clauseAt, walkFrom, begun, walked, fired, lapsed}
 use Rattle.interpreter.specs.Marks.{MarkIs, widthOf, failsAt, missesAt}

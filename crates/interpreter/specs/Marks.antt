@@ -7,7 +7,6 @@ use lib.ListN.{getD}
 use lib.Dec.{eqb}
 use Rattle.base.specs.Value.{valueAt}
 use Rattle.interpreter.specs.declared.Configuration.{Configuration}
-use Rattle.interpreter.specs.declared.Fired.{Fired}
 use Rattle.interpreter.specs.declared.marks.Mark.{Mark}
 use Rattle.interpreter.specs.Bytes.{holdsBy, missedBy, fired, lapsed}
 

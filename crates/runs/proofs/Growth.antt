@@ -10,7 +10,7 @@ use lib.ListN.{take}
 use Rattle.runs.specs.Lists.{only, keep, gather}
 use Rattle.runs.specs.Machine.{Machine}
 use Rattle.runs.specs.Run.{Quiet}
-use Rattle.runs.specs.Search.{Thread, begun, arrive, firing, chosen, moves, passes, stays, unended, offers, next, ended, endings, lesser, leastFrom, hopeful}
+use Rattle.runs.specs.Search.{Thread, begun, arrive, firing, chosen, moves, passes, stays, unended, offers, next, ended, lesser, leastFrom, hopeful}
 use Rattle.runs.specs.Threads.{candidates}
 use Rattle.runs.proofs.Moves.{stepped, first-fires, firing-quiet}
 

@@ -3,16 +3,16 @@ use Prim.Native.Nat.{ℕ, _+_, _<_}
 use mathlib.Core.Path.{_≡_, ap, sym, subst, _∙_}
 use mathlib.Core.Bool.{Bool}
 use mathlib.Core.List.{List}
-use mathlib.Core.Option.{Option, some}
+use mathlib.Core.Option.{some}
 use lib.Dec.{leb}
 use lib.ListN.{length, getD}
 use Rattle.event_log.specs.Log.{Log}
-use Rattle.formula.specs.Formula.{Formula, Step}
+use Rattle.formula.specs.Formula.{Formula}
 use Rattle.formula.specs.Encode.{stepCommands}
 use Rattle.formula.specs.Lookup.{stepTable}
 use Rattle.machine.specs.Configuration.{Config}
 use Rattle.machine.specs.Firing.{leave}
-use Rattle.machine.specs.Machine.{stepOf, fireAt, final}
+use Rattle.machine.specs.Machine.{fireAt, final}
 use Rattle.machine.proofs.Machine.{FiredAt, fire-at-some}
 use Rattle.slots.specs.declared.Thread.{Thread}
 use Rattle.interpreter.specs.Bytes.{offsetOf}

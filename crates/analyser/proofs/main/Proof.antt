@@ -4,12 +4,6 @@ use mathlib.Core.Path.{sym}
 use borrow.Author.Needs.{needs}
 use Rattle.analyser.proofs.main.Statement.{statement}
 use Rattle.analyser.proofs.main.Tie as tie
-use Rattle.analyser.proofs.main.Reads as reads
-use Rattle.analyser.proofs.main.Lts as lts
-use Rattle.analyser.proofs.load.Reads as load-reads
-use Rattle.analyser.proofs.report.Reads as report-reads
-use Rattle.io.proofs.large_buffer.Reads as large-buffer-reads
-use Rattle.os.proofs.fail.Reads as fail-reads
 
 large-buffer-requires : tie.Need-large-buffer-requires
 large-buffer-requires c κs = search needs

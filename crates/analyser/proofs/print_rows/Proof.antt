@@ -3,10 +3,6 @@ use Prim.Native.Nat.{_≤_, _-_}
 use borrow.Author.Needs.{needs}
 use Rattle.analyser.proofs.print_rows.Statement.{statement}
 use Rattle.analyser.proofs.print_rows.Tie as tie
-use Rattle.analyser.proofs.print_rows.Reads as reads
-use Rattle.analyser.proofs.print_rows.Lts as lts
-use Rattle.analyser.proofs.print_row.Reads as print-row-reads
-use Rattle.analyser.proofs.row_at.Reads as row-at-reads
 
 abbrev Inv-loop : tie.InvT-loop
 Inv-loop rows events n₀ n = n ≤ events

@@ -5,9 +5,6 @@ use denote.Ref.{now}
 use lib.ListN.{List·getD-eq-default}
 use Rattle.base.proofs.byte_at.Statement.{statement}
 use Rattle.base.proofs.byte_at.Tie as tie
-use Rattle.base.proofs.byte_at.Reads as reads
-use Rattle.base.proofs.byte_at.Lts as lts
-use Rattle.base.proofs.wide.Reads as wide-reads
 
 -- src/lib.rt:18:28
 shared-slice-read-wide : tie.Need-shared-slice-read-wide

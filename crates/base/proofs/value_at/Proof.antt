@@ -6,10 +6,6 @@ use mathlib.Core.Path.{sym}
 use borrow.Author.Needs.{needs}
 use Rattle.base.proofs.value_at.Statement.{statement}
 use Rattle.base.proofs.value_at.Tie as tie
-use Rattle.base.proofs.value_at.Reads as reads
-use Rattle.base.proofs.value_at.Lts as lts
-use Rattle.base.proofs.byte_at.Reads as byte-at-reads
-use Rattle.base.proofs.value_inside.Reads as value-inside-reads
 
 returns : tie.Need-returns
 returns c = sym (value-past _ _ (c .if1 .taken))

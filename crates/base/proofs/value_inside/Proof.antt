@@ -1,12 +1,8 @@
 -- `base::value_inside` meets its contract: byte by byte.
 use Rattle.base.specs.Value.{valueAt}
-use native.Mathlib.Omega.{arith}
 use borrow.Author.Needs.{needs}
 use Rattle.base.proofs.value_inside.Statement.{statement}
 use Rattle.base.proofs.value_inside.Tie as tie
-use Rattle.base.proofs.value_inside.Reads as reads
-use Rattle.base.proofs.value_inside.Lts as lts
-use Rattle.base.proofs.wide.Reads as wide-reads
 
 shared-slice-read-wide : tie.Need-shared-slice-read-wide
 shared-slice-read-wide c = search needs

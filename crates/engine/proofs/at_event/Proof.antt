@@ -5,10 +5,6 @@ use Rattle.engine.proofs.Turns.{turn-of}
 use borrow.Author.Needs.{needs}
 use Rattle.engine.proofs.at_event.Statement.{statement}
 use Rattle.engine.proofs.at_event.Tie as tie
-use Rattle.engine.proofs.at_event.Reads as reads
-use Rattle.engine.proofs.at_event.Lts as lts
-use Rattle.engine.proofs.one_event.Reads as one-event-reads
-use Rattle.threads.proofs.table.mark_states.Reads as mark-states-reads
 
 slice-aggregate-mark-states : tie.Need-slice-aggregate-mark-states
 slice-aggregate-mark-states c = search needs

@@ -7,12 +7,6 @@ use lib.ListN.{length}
 use borrow.Author.Needs.{needs}
 use Rattle.engine.proofs.checked.Statement.{statement}
 use Rattle.engine.proofs.checked.Tie as tie
-use Rattle.engine.proofs.checked.Reads as reads
-use Rattle.engine.proofs.checked.Lts as lts
-use Rattle.engine.proofs.refused.Reads as refused-reads
-use Rattle.engine.proofs.search_from.Reads as search-from-reads
-use Rattle.engine.proofs.skip_to.Reads as skip-to-reads
-use Rattle.engine.proofs.slots_of.Reads as slots-of-reads
 
 refused-requires : tie.Need-refused-requires
 refused-requires c κs = search needs

@@ -2,10 +2,6 @@
 use borrow.Author.Needs.{needs}
 use Rattle.engine.proofs.named.Statement.{statement}
 use Rattle.engine.proofs.named.Tie as tie
-use Rattle.engine.proofs.named.Reads as reads
-use Rattle.engine.proofs.named.Lts as lts
-use Rattle.engine.proofs.entries_of.Reads as entries-of-reads
-use Rattle.engine.proofs.verdict_at.Reads as verdict-at-reads
 
 entries-of-requires : tie.Need-entries-of-requires
 entries-of-requires c κs = search needs

@@ -9,17 +9,6 @@ use Rattle.engine.specs.Turn.{Fits}
 use Rattle.engine.proofs.Turns.{Searching, searching-start, searching-over, searching-next, searching-found, searching-crowded}
 use Rattle.engine.proofs.search_from.Statement.{statement}
 use Rattle.engine.proofs.search_from.Tie as tie
-use Rattle.engine.proofs.search_from.Reads as reads
-use Rattle.engine.proofs.search_from.Lts as lts
-use Rattle.engine.proofs.at_event.Reads as at-event-reads
-use Rattle.engine.proofs.larger.Reads as larger-reads
-use Rattle.engine.proofs.named.Reads as named-reads
-use Rattle.engine.proofs.no_run.Reads as no-run-reads
-use Rattle.engine.proofs.onward.Reads as onward-reads
-use Rattle.engine.proofs.origin_in.Reads as origin-in-reads
-use Rattle.engine.proofs.refused.Reads as refused-reads
-use Rattle.event_log.proofs.event_at.Reads as event-at-reads
-use Rattle.threads.proofs.table.widened.Reads as widened-reads
 
 abbrev Inv-loop : tie.InvT-loop
 Inv-loop l log at f table kinds start slots work₀ wide half₀ count₀ width₀ place₀ n₀ work half count width place n =

@@ -5,9 +5,6 @@ use lib.ListN.{length}
 use borrow.Author.Needs.{needs}
 use Rattle.formula_cases.proofs.show_cuts.Statement.{statement}
 use Rattle.formula_cases.proofs.show_cuts.Tie as tie
-use Rattle.formula_cases.proofs.show_cuts.Reads as reads
-use Rattle.formula_cases.proofs.show_cuts.Lts as lts
-use Rattle.formula_cases.proofs.show_part.Reads as show-part-reads
 
 abbrev Inv-loop : tie.InvT-loop
 Inv-loop n f k₀ k = (k ≤ n) × (length f ≡ 32)

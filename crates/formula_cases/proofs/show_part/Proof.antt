@@ -5,9 +5,6 @@ use denote.Ref.{now}
 use borrow.Author.Needs.{needs}
 use Rattle.formula_cases.proofs.show_part.Statement.{statement}
 use Rattle.formula_cases.proofs.show_part.Tie as tie
-use Rattle.formula_cases.proofs.show_part.Reads as reads
-use Rattle.formula_cases.proofs.show_part.Lts as lts
-use Rattle.formula_cases.proofs.show.Reads as show-reads
 
 -- src/main.rt:35:14
 slice-aggregate-show : tie.Need-slice-aggregate-show

@@ -3,9 +3,6 @@ use Prim.Native.Nat.{_≤_, _-_}
 use borrow.Author.Needs.{needs}
 use Rattle.formula_cases.proofs.show_sets.Statement.{statement}
 use Rattle.formula_cases.proofs.show_sets.Tie as tie
-use Rattle.formula_cases.proofs.show_sets.Reads as reads
-use Rattle.formula_cases.proofs.show_sets.Lts as lts
-use Rattle.formula_cases.proofs.show_set.Reads as show-set-reads
 
 abbrev Inv-loop : tie.InvT-loop
 Inv-loop f n at₀ at = at ≤ n

@@ -2,9 +2,6 @@
 use borrow.Author.Needs.{needs}
 use Rattle.formula_reader.proofs.accepted_with.Statement.{statement}
 use Rattle.formula_reader.proofs.accepted_with.Tie as tie
-use Rattle.formula_reader.proofs.accepted_with.Reads as reads
-use Rattle.formula_reader.proofs.accepted_with.Lts as lts
-use Rattle.formula_reader.proofs.mask_of.Reads as mask-of-reads
 
 mask-of-requires : tie.Need-mask-of-requires
 mask-of-requires c κs = search needs

@@ -4,8 +4,6 @@ use Rattle.formula_reader.specs.Places.{nowhere}
 use Rattle.formula_reader.specs.Scan.{emptyDraft}
 use Rattle.formula_reader.proofs.empty_draft.Statement.{statement}
 use Rattle.formula_reader.proofs.empty_draft.Tie as tie
-use Rattle.formula_reader.proofs.empty_draft.Reads as reads
-use Rattle.formula_reader.proofs.empty_draft.Lts as lts
 
 returns : tie.Need-returns
 unfolding emptyDraft nowhere

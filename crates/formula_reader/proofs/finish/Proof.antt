@@ -2,9 +2,6 @@
 use borrow.Author.Needs.{needs}
 use Rattle.formula_reader.proofs.finish.Statement.{statement}
 use Rattle.formula_reader.proofs.finish.Tie as tie
-use Rattle.formula_reader.proofs.finish.Reads as reads
-use Rattle.formula_reader.proofs.finish.Lts as lts
-use Rattle.formula_reader.proofs.stopped_by.Reads as stopped-by-reads
 
 enum-known-n : tie.Need-enum-known-n
 enum-known-n c = search needs

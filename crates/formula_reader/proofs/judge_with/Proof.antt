@@ -5,10 +5,6 @@ use borrow.Author.Tests.{lt-ltb, le-ltb}
 use borrow.Author.Needs.{needs}
 use Rattle.formula_reader.proofs.judge_with.Statement.{statement}
 use Rattle.formula_reader.proofs.judge_with.Tie as tie
-use Rattle.formula_reader.proofs.judge_with.Reads as reads
-use Rattle.formula_reader.proofs.judge_with.Lts as lts
-use Rattle.formula_reader.proofs.accepted_with.Reads as accepted-with-reads
-use Rattle.formula_reader.proofs.refused_with.Reads as refused-with-reads
 
 refused-with-requires : tie.Need-refused-with-requires
 refused-with-requires c κs = search needs

@@ -3,9 +3,6 @@ use Rattle.formula_reader.specs.Answer.{maskOf}
 use borrow.Author.Needs.{needs}
 use Rattle.formula_reader.proofs.mask_of.Statement.{statement}
 use Rattle.formula_reader.proofs.mask_of.Tie as tie
-use Rattle.formula_reader.proofs.mask_of.Reads as reads
-use Rattle.formula_reader.proofs.mask_of.Lts as lts
-use Rattle.formula_reader.proofs.bit_if.Reads as bit-if-reads
 
 array-read-bit-if : tie.Need-array-read-bit-if
 array-read-bit-if c = search needs

@@ -1,6 +1,6 @@
 -- `formula_reader::read_formula` meets its contract: a refused walk, bytes behind END, or what was gathered is judged.
-use mathlib.Core.Path.{_≡_, refl, sym, subst, _∙_, ap}
-use Prim.Native.Nat.{_<_, _≤_, _+_, _*_, _-_}
+use mathlib.Core.Path.{sym, subst, _∙_, ap}
+use Prim.Native.Nat.{_-_}
 use native.Mathlib.Omega.{arith}
 use Rattle.formula.specs.Read.{refused}
 use Rattle.formula_reader.specs.Scan.{Scanned}
@@ -9,14 +9,6 @@ use Rattle.formula_reader.proofs.CodeAnswer.{bytes-of, answer-refused, 
 use borrow.Author.Needs.{needs}
 use Rattle.formula_reader.proofs.read_formula.Statement.{statement}
 use Rattle.formula_reader.proofs.read_formula.Tie as tie
-use Rattle.formula_reader.proofs.read_formula.Reads as reads
-use Rattle.formula_reader.proofs.read_formula.Lts as lts
-use Rattle.formula_reader.proofs.free_of.Reads as free-of-reads
-use Rattle.formula_reader.proofs.judge_with.Reads as judge-with-reads
-use Rattle.formula_reader.proofs.lowest_of.Reads as lowest-of-reads
-use Rattle.formula_reader.proofs.refusal_in.Reads as refusal-in-reads
-use Rattle.formula_reader.proofs.refused_with.Reads as refused-with-reads
-use Rattle.formula_reader.proofs.scan_file.Reads as scan-file-reads
 
 scan-file-requires : tie.Need-scan-file-requires
 scan-file-requires c κs = search needs

@@ -1,9 +1,7 @@
--- `formula::refusal_in` meets its contract: each case is its line.
+-- `formula_reader::refusal_in` meets its contract: each case is its line.
 use borrow.Author.Needs.{needs}
 use Rattle.formula_reader.proofs.refusal_in.Statement.{statement}
 use Rattle.formula_reader.proofs.refusal_in.Tie as tie
-use Rattle.formula_reader.proofs.refusal_in.Reads as reads
-use Rattle.formula_reader.proofs.refusal_in.Lts as lts
 
 enum-known-v : tie.Need-enum-known-v
 enum-known-v c = search needs

@@ -1,29 +1,14 @@
 -- `formula_reader::scan_file` meets its contract: the loop keeps what was gathered, with enough fuel for the rest.
-use mathlib.Core.Path.{_≡_, refl, sym, subst, _∙_, ap}
-use Prim.Native.Nat.{_<_, _≤_, _+_, _*_, _-_}
+use mathlib.Core.Path.{sym, subst, _∙_, ap}
+use Prim.Native.Nat.{_≤_, _-_}
 use native.Mathlib.Omega.{arith}
-use lib.ListN.{length, take, drop, length-drop}
+use lib.ListN.{length, length-drop}
 use Rattle.formula_reader.specs.Take.{nextEnd}
 use Rattle.formula_reader.proofs.CodeScan.{SoFar, begin, next-from, scanned, taken-facts, taken-on, added-is, most-steps}
 use Rattle.formula_reader.proofs.CodeGuard.{part-rest}
 use borrow.Author.Needs.{needs}
 use Rattle.formula_reader.proofs.scan_file.Statement.{statement}
 use Rattle.formula_reader.proofs.scan_file.Tie as tie
-use Rattle.formula_reader.proofs.scan_file.Reads as reads
-use Rattle.formula_reader.proofs.scan_file.Lts as lts
-use Rattle.formula_reader.proofs.advance.Reads as advance-reads
-use Rattle.formula_reader.proofs.empty_draft.Reads as empty-draft-reads
-use Rattle.formula_reader.proofs.finish.Reads as finish-reads
-use Rattle.formula_reader.proofs.keep_bound.Reads as keep-bound-reads
-use Rattle.formula_reader.proofs.keep_from.Reads as keep-from-reads
-use Rattle.formula_reader.proofs.keep_kind.Reads as keep-kind-reads
-use Rattle.formula_reader.proofs.keep_offset.Reads as keep-offset-reads
-use Rattle.formula_reader.proofs.keep_tie.Reads as keep-tie-reads
-use Rattle.formula_reader.proofs.keep_to.Reads as keep-to-reads
-use Rattle.formula_reader.proofs.next_command.Reads as next-command-reads
-use Rattle.formula_reader.proofs.note_command.Reads as note-command-reads
-use Rattle.formula_reader.proofs.own_after.Reads as own-after-reads
-use Rattle.formula_reader.proofs.steps_after.Reads as steps-after-reads
 
 abbrev Inv-loop : tie.InvT-loop
 Inv-loop l fields d₀ d = SoFar fields l d

@@ -2,9 +2,6 @@
 use borrow.Author.Needs.{needs}
 use Rattle.formula_reader.proofs.stopped_by.Statement.{statement}
 use Rattle.formula_reader.proofs.stopped_by.Tie as tie
-use Rattle.formula_reader.proofs.stopped_by.Reads as reads
-use Rattle.formula_reader.proofs.stopped_by.Lts as lts
-use Rattle.formula_reader.proofs.empty_draft.Reads as empty-draft-reads
 
 empty-draft-requires : tie.Need-empty-draft-requires
 empty-draft-requires c κs = search needs

@@ -11,12 +11,6 @@ use Rattle.machine.specs.Machine.{machine}
 use borrow.Author.Needs.{needs}
 use Rattle.rows.proofs.one_start.Statement.{statement}
 use Rattle.rows.proofs.one_start.Tie as tie
-use Rattle.rows.proofs.one_start.Reads as reads
-use Rattle.rows.proofs.one_start.Lts as lts
-use Rattle.engine.proofs.search_from.Reads as search-from-reads
-use Rattle.rows.proofs.is_refused.Reads as is-refused-reads
-use Rattle.rows.proofs.words_of.Reads as words-of-reads
-use Rattle.rows.proofs.write_row.Reads as write-row-reads
 
 search-from-requires : tie.Need-search-from-requires
 search-from-requires c κs = search needs

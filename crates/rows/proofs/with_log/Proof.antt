@@ -9,11 +9,6 @@ use Rattle.rows.proofs.Calls.{refused-formula, accepted-formula}
 use borrow.Author.Needs.{needs}
 use Rattle.rows.proofs.with_log.Statement.{statement}
 use Rattle.rows.proofs.with_log.Tie as tie
-use Rattle.rows.proofs.with_log.Reads as reads
-use Rattle.rows.proofs.with_log.Lts as lts
-use Rattle.formula_reader.proofs.read_formula.Reads as read-formula-reads
-use Rattle.rows.proofs.held_in.Reads as held-in-reads
-use Rattle.rows.proofs.with_formula.Reads as with-formula-reads
 
 read-formula-requires : tie.Need-read-formula-requires
 read-formula-requires c κs = search needs

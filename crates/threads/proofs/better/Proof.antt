@@ -6,11 +6,6 @@ use Rattle.threads.proofs.Waiting.{move-final}
 use borrow.Author.Needs.{needs}
 use Rattle.threads.proofs.better.Statement.{statement}
 use Rattle.threads.proofs.better.Tie as tie
-use Rattle.threads.proofs.better.Reads as reads
-use Rattle.threads.proofs.better.Lts as lts
-use Rattle.slots.proofs.later.Reads as later-reads
-use Rattle.threads.proofs.moved.Reads as moved-reads
-use Rattle.threads.proofs.step.ends_by.Reads as ends-by-reads
 
 ends-by-requires : tie.Need-ends-by-requires
 ends-by-requires c κs = search needs

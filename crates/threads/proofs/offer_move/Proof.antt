@@ -8,11 +8,6 @@ use Rattle.threads.proofs.Waiting.{grown-same, within-none, within-as, 
 use borrow.Author.Needs.{needs}
 use Rattle.threads.proofs.offer_move.Statement.{statement}
 use Rattle.threads.proofs.offer_move.Tie as tie
-use Rattle.threads.proofs.offer_move.Reads as reads
-use Rattle.threads.proofs.offer_move.Lts as lts
-use Rattle.threads.proofs.moved.Reads as moved-reads
-use Rattle.threads.proofs.offer.Reads as offer-reads
-use Rattle.threads.proofs.step.ends_by.Reads as ends-by-reads
 
 ends-by-requires : tie.Need-ends-by-requires
 ends-by-requires c κs = search needs

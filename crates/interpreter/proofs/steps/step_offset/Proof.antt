@@ -4,8 +4,6 @@ use denote.Ref.{now}
 use borrow.Author.Needs.{needs}
 use Rattle.interpreter.proofs.steps.step_offset.Statement.{statement}
 use Rattle.interpreter.proofs.steps.step_offset.Tie as tie
-use Rattle.interpreter.proofs.steps.step_offset.Reads as reads
-use Rattle.interpreter.proofs.steps.step_offset.Lts as lts
 
 returns : tie.Need-returns
 returns c = offset-over (now (c .before .args .table)) (c .before .args .s) (c .before .args .k) (c .if1 .taken)

@@ -3,8 +3,6 @@ use Rattle.interpreter.specs.Bytes.{configOf}
 use mathlib.Core.Path.{refl}
 use Rattle.threads.proofs.step.configuration_of.Statement.{statement}
 use Rattle.threads.proofs.step.configuration_of.Tie as tie
-use Rattle.threads.proofs.step.configuration_of.Reads as reads
-use Rattle.threads.proofs.step.configuration_of.Lts as lts
 
 returns : tie.Need-returns
 unfolding configOf

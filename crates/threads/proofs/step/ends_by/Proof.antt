@@ -11,11 +11,6 @@ use Rattle.threads.proofs.Targets.{target-inside, target-final}
 use borrow.Author.Needs.{needs}
 use Rattle.threads.proofs.step.ends_by.Statement.{statement}
 use Rattle.threads.proofs.step.ends_by.Tie as tie
-use Rattle.threads.proofs.step.ends_by.Reads as reads
-use Rattle.threads.proofs.step.ends_by.Lts as lts
-use Rattle.base.proofs.byte_at.Reads as byte-at-reads
-use Rattle.interpreter.proofs.steps.step_offset.Reads as step-offset-reads
-use Rattle.threads.proofs.is_final.Reads as is-final-reads
 
 step-offset-requires : tie.Need-step-offset-requires
 step-offset-requires c κs = search needs

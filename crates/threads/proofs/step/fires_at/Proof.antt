@@ -13,12 +13,6 @@ use Prim.Native.Nat.{ℕ}
 use borrow.Author.Needs.{needs}
 use Rattle.threads.proofs.step.fires_at.Statement.{statement}
 use Rattle.threads.proofs.step.fires_at.Tie as tie
-use Rattle.threads.proofs.step.fires_at.Reads as reads
-use Rattle.threads.proofs.step.fires_at.Lts as lts
-use Rattle.interpreter.proofs.firing.fire.Reads as fire-reads
-use Rattle.interpreter.proofs.steps.step_offset.Reads as step-offset-reads
-use Rattle.threads.proofs.step.configuration_of.Reads as configuration-of-reads
-use Rattle.threads.proofs.step.thread_in.Reads as thread-in-reads
 
 step-offset-requires : tie.Need-step-offset-requires
 step-offset-requires c κs = search needs

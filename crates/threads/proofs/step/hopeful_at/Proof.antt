@@ -10,10 +10,6 @@ use Rattle.threads.proofs.Tables.{hopeful-here}
 use borrow.Author.Needs.{needs}
 use Rattle.threads.proofs.step.hopeful_at.Statement.{statement}
 use Rattle.threads.proofs.step.hopeful_at.Tie as tie
-use Rattle.threads.proofs.step.hopeful_at.Reads as reads
-use Rattle.threads.proofs.step.hopeful_at.Lts as lts
-use Rattle.interpreter.proofs.steps.hopeful.Reads as hopeful-reads
-use Rattle.threads.proofs.step.configuration_of.Reads as configuration-of-reads
 
 returns : tie.Need-returns
 returns c = λ g fm kinds n s l h. absurd (omega (arith, s .offsets .sized, c .if1 .taken))

@@ -11,10 +11,6 @@ use Rattle.threads.proofs.Tables.{lowest-here}
 use borrow.Author.Needs.{needs}
 use Rattle.threads.proofs.step.lowest_at.Statement.{statement}
 use Rattle.threads.proofs.step.lowest_at.Tie as tie
-use Rattle.threads.proofs.step.lowest_at.Reads as reads
-use Rattle.threads.proofs.step.lowest_at.Lts as lts
-use Rattle.interpreter.proofs.steps.lowest.Reads as lowest-reads
-use Rattle.threads.proofs.step.configuration_of.Reads as configuration-of-reads
 
 configuration-of-requires : tie.Need-configuration-of-requires
 configuration-of-requires c κs = search needs

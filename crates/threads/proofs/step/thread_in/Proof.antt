@@ -3,8 +3,6 @@ use Rattle.interpreter.specs.Bytes.{configOf}
 use mathlib.Core.Path.{refl}
 use Rattle.threads.proofs.step.thread_in.Statement.{statement}
 use Rattle.threads.proofs.step.thread_in.Tie as tie
-use Rattle.threads.proofs.step.thread_in.Reads as reads
-use Rattle.threads.proofs.step.thread_in.Lts as lts
 
 returns : tie.Need-returns
 unfolding configOf

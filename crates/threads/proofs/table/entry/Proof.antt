@@ -5,8 +5,6 @@ use lib.ListN.{List·getD-eq-default}
 use borrow.Author.Needs.{needs}
 use Rattle.threads.proofs.table.entry.Statement.{statement}
 use Rattle.threads.proofs.table.entry.Tie as tie
-use Rattle.threads.proofs.table.entry.Reads as reads
-use Rattle.threads.proofs.table.entry.Lts as lts
 
 mul-result : tie.Need-mul-result
 mul-result c = search needs

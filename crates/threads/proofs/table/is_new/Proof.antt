@@ -3,8 +3,6 @@ use mathlib.Core.Bool.{false≢true}
 use borrow.Author.Needs.{needs}
 use Rattle.threads.proofs.table.is_new.Statement.{statement}
 use Rattle.threads.proofs.table.is_new.Tie as tie
-use Rattle.threads.proofs.table.is_new.Reads as reads
-use Rattle.threads.proofs.table.is_new.Lts as lts
 
 array-read-result : tie.Need-array-read-result
 array-read-result c = search needs

@@ -1,21 +1,16 @@
 -- `threads::mark_entry` meets its contract: an entry is made 0 only where the step's mark says so.
 use Rattle.threads.specs.Setting.{EventTable}
 use Rattle.interpreter.specs.Bytes.{fired, lapsed}
-use mathlib.Core.Bool.{true, false, cond}
+use mathlib.Core.Bool.{true, false}
 use native.Mathlib.Omega.{arith}
 use Prim.Native.Nat.{_+_}
-use mathlib.Core.Path.{_≡_, ap, sym, subst, _∙_}
+use mathlib.Core.Path.{_≡_, sym, subst, _∙_}
 use denote.Ref.{now}
-use lib.ListN.{length-set, getD, set, length}
+use lib.ListN.{length-set, set}
 use Rattle.threads.proofs.Marking.{barred-more, due-more}
 use borrow.Author.Needs.{needs}
 use Rattle.threads.proofs.table.mark_entry.Statement.{statement}
 use Rattle.threads.proofs.table.mark_entry.Tie as tie
-use Rattle.threads.proofs.table.mark_entry.Reads as reads
-use Rattle.threads.proofs.table.mark_entry.Lts as lts
-use Rattle.interpreter.proofs.marks.mark_step.Reads as mark-step-reads
-use Rattle.threads.proofs.table.entry.Reads as entry-reads
-use Rattle.threads.proofs.table.unless.Reads as unless-reads
 
 entry-requires : tie.Need-entry-requires
 entry-requires c κs = search needs

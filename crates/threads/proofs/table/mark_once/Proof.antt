@@ -2,10 +2,6 @@
 use borrow.Author.Needs.{needs}
 use Rattle.threads.proofs.table.mark_once.Statement.{statement}
 use Rattle.threads.proofs.table.mark_once.Tie as tie
-use Rattle.threads.proofs.table.mark_once.Reads as reads
-use Rattle.threads.proofs.table.mark_once.Lts as lts
-use Rattle.threads.proofs.table.is_new.Reads as is-new-reads
-use Rattle.threads.proofs.table.mark_state.Reads as mark-state-reads
 
 is-new-requires : tie.Need-is-new-requires
 is-new-requires c κs = search needs

@@ -2,14 +2,9 @@
 use native.Mathlib.Omega.{arith}
 use Prim.Native.Nat.{_-_, _≤_}
 use mathlib.Core.Path.{refl, _∙_}
-use denote.Ref.{now}
-use lib.ListN.{length}
 use Rattle.threads.specs.Setting.{MarkedIs}
 use Rattle.threads.proofs.table.mark_state.Statement.{statement}
 use Rattle.threads.proofs.table.mark_state.Tie as tie
-use Rattle.threads.proofs.table.mark_state.Reads as reads
-use Rattle.threads.proofs.table.mark_state.Lts as lts
-use Rattle.threads.proofs.table.mark_entry.Reads as mark-entry-reads
 
 abbrev Inv-loop : tie.InvT-loop
 Inv-loop table₀ s f steps up event k₀ table k = (k ≤ 8) × MarkedIs f steps up event table₀ table

@@ -3,15 +3,9 @@ use borrow.Author.Needs.{needs}
 use native.Mathlib.Omega.{arith}
 use Prim.Native.Nat.{_-_, _≤_}
 use mathlib.Core.Path.{refl, _∙_}
-use denote.Ref.{now}
-use lib.ListN.{length}
 use Rattle.threads.specs.Setting.{MarkedIs}
 use Rattle.threads.proofs.table.mark_states.Statement.{statement}
 use Rattle.threads.proofs.table.mark_states.Tie as tie
-use Rattle.threads.proofs.table.mark_states.Reads as reads
-use Rattle.threads.proofs.table.mark_states.Lts as lts
-use Rattle.slots.proofs.state_at.Reads as state-at-reads
-use Rattle.threads.proofs.table.mark_once.Reads as mark-once-reads
 
 abbrev Inv-loop : tie.InvT-loop
 Inv-loop table₀ work half count f steps up event done₀ j₀ table done j = (j ≤ count) × MarkedIs f steps up event table₀ table

@@ -8,8 +8,6 @@ use native.Mathlib.Omega.{arith}
 use borrow.Author.Needs.{needs}
 use Rattle.threads.proofs.table.widened.Statement.{statement}
 use Rattle.threads.proofs.table.widened.Tie as tie
-use Rattle.threads.proofs.table.widened.Reads as reads
-use Rattle.threads.proofs.table.widened.Lts as lts
 
 abbrev Inv-loop : tie.InvT-loop
 Inv-loop steps table₀ i₀ table i = Copied steps table i

@@ -1,0 +1,20 @@
+-- `commands::operands_at` meets its contract: the tests on the way are the definition's.
+use Rattle.formula_reader.specs.Take.{operandsAt}
+use borrow.Author.Tests.{lt-ltb, le-ltb}
+use Rattle.formula_reader.proofs.commands.operands_at.Statement.{statement}
+use Rattle.formula_reader.proofs.commands.operands_at.Tie as tie
+
+returns : tie.Need-returns
+unfolding operandsAt
+returns c = rw (lt-ltb _ _ (c .if1 .taken))
+
+returns-2 : tie.Need-returns-2
+unfolding operandsAt
+returns-2 c = rw (le-ltb _ _ (c .before .if1 .left), c .if2 .taken)
+
+returns-3 : tie.Need-returns-3
+unfolding operandsAt
+returns-3 c = rw (le-ltb _ _ (c .before .if1 .left), c .if2 .left)
+
+pub operands-at-spec : {M : Type 1} → statement M
+operands-at-spec = tie.close (tie.spec returns returns-2 returns-3)

@@ -1,0 +1,46 @@
+-- `gathering::keep_offset` meets its contract: a STEP's place goes behind those of its state.
+use Rattle.formula_reader.proofs.CodeKeep.{unless-step}
+use Rattle.formula_reader.specs.Scan.{tableWith}
+use Rattle.formula_reader.specs.Scan.{Ready}
+use mathlib.Core.Path.{refl, subst}
+use native.Mathlib.Omega.{arith}
+use borrow.Author.Needs.{needs}
+use Rattle.formula_reader.proofs.gathering.keep_offset.Statement.{statement}
+use Rattle.formula_reader.proofs.gathering.keep_offset.Tie as tie
+
+enum-known-c : tie.Need-enum-known-c
+enum-known-c c = search needs
+
+returns : tie.Need-returns
+returns c = unless-step (tableWith (c .before .args .table .now) (c .before .args .s) (c .before .args .at)) (c .before .args .table .now) (λ v. refl) (λ k. refl) refl (λ v. refl) (λ v. refl) refl (c .before .args .c) (c .match .keys2)
+
+sub-table : tie.Need-sub-table
+sub-table c = let r = subst (Ready (c .before .before .before .before .args .s)) (c .before .before .c .given .1) (c .before .before .before .before .pre .1) in omega (arith, r .0)
+
+mul-table : tie.Need-mul-table
+mul-table c = search needs
+
+add-table : tie.Need-add-table
+add-table c = search needs
+
+mul-table-2 : tie.Need-mul-table-2
+mul-table-2 c = search needs
+
+element-write-table : tie.Need-element-write-table
+element-write-table c = let r = subst (Ready (c .before .before .before .before .before .args .s)) (c .before .before .before .c .given .1) (c .before .before .before .before .before .pre .1) in omega (arith, r .0, r .1, c .before .before .before .before .before .pre .0 .states)
+
+returns-2 : tie.Need-returns-2
+returns-2 c = rw (c .before .before .before .c .given .1)
+
+pub keep-offset-spec : {M : Type 1} → statement M
+keep-offset-spec =
+    tie.close
+    (tie.spec
+    enum-known-c
+    returns
+    sub-table
+    mul-table
+    add-table
+    mul-table-2
+    element-write-table
+    returns-2)
