@@ -17,6 +17,7 @@ use crate::gathering::keep_to;
 use crate::gathering::note_command;
 use crate::gathering::own_after;
 use crate::gathering::steps_after;
+use crate::places::NOWHERE;
 use crate::places::lowest_of;
 use refusal::File;
 use refusal::Refusal;
@@ -155,7 +156,7 @@ fn empty_draft() -> Draft
         to: [0usize; 128],
         bound: [false; 1024],
         own: [false; 8],
-        places: [18446744073709551615usize; 145],
+        places: [NOWHERE; 145],
     }
 }
 
@@ -284,7 +285,7 @@ fn accepted_with(d: Draft) -> FormulaReading
 fn judge_with(d: Draft, absent: usize, unbound: usize) -> FormulaReading
     ensures { λ a. ⌜ a ≡ judgedWith d absent unbound ⌝ }
 {
-    if absent < 18446744073709551615 {
+    if absent < NOWHERE {
         return refused_with(Refusal::Value {
             file: File::Formula,
             place: absent,
@@ -293,7 +294,7 @@ fn judge_with(d: Draft, absent: usize, unbound: usize) -> FormulaReading
     if 1 < d.kinds[0] {
         return refused_with(Refusal::DeadStart);
     }
-    if unbound < 18446744073709551615 {
+    if unbound < NOWHERE {
         return refused_with(Refusal::Unbound { place: unbound });
     }
     accepted_with(d)

@@ -2,7 +2,10 @@
 ghost use mathlib.Core.Path.{_≡_};
 ghost use mathlib.Core.Bool.{cond};
 ghost use Prim.Native.Nat.{_<_, min};
-ghost use Rattle.formula_reader.specs.Places.{noted, stateKey, varNoted, picked, lowestOf};
+ghost use Rattle.formula_reader.specs.Places.{nowhere, noted, stateKey, varNoted, picked, lowestOf};
+
+// The place of what is named nowhere, above all places of a file.
+pub const NOWHERE: usize = 18446744073709551615;
 
 // The lower of two places.
 fn lower(a: usize, b: usize) -> usize
@@ -56,19 +59,19 @@ fn is_picked(free: [bool; 128], from: usize, key: usize) -> bool
 
 // The place of a key that is looked at, or nowhere.
 fn place_if(look: bool, place: usize) -> usize
-    ensures { λ r. ⌜ r ≡ cond look place 18446744073709551615 ⌝ }
+    ensures { λ r. ⌜ r ≡ cond look place nowhere ⌝ }
 {
     if look {
         return place;
     }
-    18446744073709551615
+    NOWHERE
 }
 
 // The lowest place of the keys that are looked at, or nowhere.
 pub fn lowest_of(free: [bool; 128], from: usize, places: &[usize; 145]) -> usize
     ensures { λ r. ⌜ r ≡ lowestOf free from (now (places .entry)) ⌝ }
 {
-    let mut lowest: usize = 18446744073709551615;
+    let mut lowest: usize = NOWHERE;
     let mut key: usize = 145;
     while 0 < key {
         key -= 1;
