@@ -1,12 +1,12 @@
 -- One start: the row that its answer gives says what the paper says, by the runs named before.
-use Prim.Native.Nat.{ℕ, zero, suc, _+_, _*_, _/_, _%_, _^_, _<_}
-use native.Mathlib.Nat.{div-div-eq-div-mul, zero-div, pow-succ'}
+use Prim.Native.Nat.{ℕ, suc, _+_, _<_}
 use native.Mathlib.Omega.{arith}
 use mathlib.Core.Path.{_≡_, refl, sym, _∙_}
 use mathlib.Core.Logic.{_↔_}
 use mathlib.Core.Bool.{Bool, true, false, cond, false≢true, true≢false}
-use mathlib.Core.List.{List, [], _∷_}
-use lib.ListN.{length, getD}
+use mathlib.Core.List.{List}
+use lib.ListN.{length}
+use Rattle.base.proofs.Masks.{mask-below, mask-bit}
 use Rattle.event_log.specs.Log.{Log}
 use Rattle.formula.specs.Formula.{Formula}
 use Rattle.runs.specs.Lists.{In}
@@ -19,30 +19,9 @@ use Rattle.machine.proofs.Machine.{Premises}
 use Rattle.search.specs.Demand.{Names}
 use Rattle.search.proofs.Premises.{ends-valid}
 use Rattle.search.proofs.Demand.{is-answer}
-use Rattle.analysis.specs.Rows.{NamedRun, named, subsumed, verdict, mask, noneRow, row}
+use Rattle.analysis.specs.Rows.{NamedRun, named, subsumed, verdict, noneRow, row}
 use Rattle.analysis.specs.Demand.{Holds, Overlapped, Subsumed, Alert, NoRun, Row}
 use Rattle.analysis.proofs.Ties.{subsumes-in, subsumes-out, subsumed-in, subsumed-out}
-
-abbrev bit : Bool → ℕ
-bit h = cond h 1 0
-
-bit-small : (h : Bool) → bit h < 2
-bit-small true = omega arith
-bit-small false = omega arith
-
--- "a mask with bit v set if variable v is held"
-mask-bit : (hs : List Bool) (v : ℕ) → mask hs / 2 ^ v % 2 ≡ bit (getD hs v false)
-unfolding mask
-mask-bit [] v = rw (zero-div (2 ^ v))
-mask-bit (h ∷ hs) zero = omega (arith, bit-small h)
-mask-bit (h ∷ hs) (suc v) =
-    let half : (bit h + 2 * mask hs) / 2 ≡ mask hs = omega (arith, bit-small h) in
-    rw (pow-succ' 2 v, ← div-div-eq-div-mul (bit h + 2 * mask hs) 2 (2 ^ v), half) (mask-bit hs v)
-
-mask-small : (hs : List Bool) → mask hs < 2 ^ length hs
-unfolding mask
-mask-small [] = omega arith
-mask-small (h ∷ hs) = omega (arith, bit-small h, mask-small hs, pow-succ' 2 (length hs))
 
 -- a number that is k, of which A holds exactly then
 is : {A : Type 0} {v k : ℕ} → v ≡ k → A → (v ≡ k) ↔ A
@@ -98,7 +77,7 @@ module _ (log : Log) (formula : Formula) (P : Premises log formula) (slots : ℕ
         last-event = refl;
         steps = refl;
         mask = λ x h. mask-bit (c .held) x;
-        eight-bits = rw (k .held-8) at (mask-small (c .held));
+        eight-bits = mask-below (c .held) 8 (omega (arith, k .held-8));
         values = λ x h e. let four : 4 + x ≡ suc (suc (suc (suc x))) = omega arith in rw four;
         unheld = λ x h e. let four : 4 + x ≡ suc (suc (suc (suc x))) = omega arith in rw four (k .unheld-0 x e);
       }

@@ -1,10 +1,11 @@
 -- Rows: "verdict (0 none, 1 alert, 2 subsumed, 3 rejected), last event, steps, a mask with bit v set if variable v is held, eight
 -- values (0 if not held)".
-use Prim.Native.Nat.{ℕ, zero, suc, _+_, _*_}
+use Prim.Native.Nat.{ℕ, zero, suc}
 use mathlib.Core.Bool.{Bool, true, false, cond, _&&_, _||_}
 use mathlib.Core.List.{List, [], _∷_, _++_}
 use lib.ListN.{length, getD, replicate}
 use lib.Dec.{leb, eqb}
+use Rattle.base.specs.Mask.{mask}
 use Rattle.event_log.specs.Log.{Log}
 use Rattle.formula.specs.Formula.{Formula}
 use Rattle.runs.specs.Run.{Trail, last}
@@ -47,15 +48,11 @@ subsumed tied start this (e ∷ es) = subsumes tied start this e || subsumed tie
 unfoldable pub verdict : List ℕ → ℕ → NamedRun → List NamedRun → ℕ
 verdict tied start this earlier = cond (this .accepts) (cond (subsumed tied start this earlier) 2 1) 3
 
--- "a mask with bit v set if variable v is held"
-unfoldable pub mask : List Bool → ℕ
-mask [] = 0
-mask (h ∷ hs) = cond h 1 0 + 2 * mask hs
-
 -- "A none row is all 0. Any other row holds its start's named run"
 unfoldable pub noneRow : List ℕ
 noneRow = replicate 12 0
 
+-- its fourth word is "a mask with bit v set if variable v is held"
 unfoldable pub row : ℕ → NamedRun → List ℕ
 row v r = v ∷ r .last ∷ r .steps ∷ mask (r .held) ∷ r .values
 

@@ -1,3 +1,5 @@
--- Laws on lists and numbers that several layers cite.
+-- Laws on lists, numbers and masks that several layers cite.
 pub mod Lists
+pub mod Same
 pub mod Values
+pub mod Masks

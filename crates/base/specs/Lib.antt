@@ -1,3 +1,4 @@
--- Definitions that every layer uses: lists and values in bytes.
+-- Definitions that every layer uses: lists, values in bytes, masks.
 pub mod Value
 pub mod Lists
+pub mod Mask

@@ -1,5 +1,6 @@
--- Predicates on lists, and lists of a fixed length as arrays hold them.
+-- Predicates on lists, lists of a fixed length as arrays hold them, and lists compared.
 use Prim.Native.Nat.{ℕ, zero, suc, _<_}
+use mathlib.Core.Bool.{Bool, true, false, _&&_}
 use mathlib.Core.List.{List, [], _∷_}
 
 -- every element of the list has the property
@@ -16,3 +17,10 @@ unfoldable pub pad : {A : Type 0} → ℕ → A → List A → List A
 pad zero d xs = []
 pad (suc n) d [] = d ∷ pad n d []
 pad (suc n) d (x ∷ xs) = x ∷ pad n d xs
+
+-- two lists have the same elements, by a test on elements
+abbrev pub sameList : {A : Type 0} → (A → A → Bool) → List A → List A → Bool
+sameList same [] [] = true
+sameList same [] (y ∷ ys) = false
+sameList same (x ∷ xs) [] = false
+sameList same (x ∷ xs) (y ∷ ys) = same x y && sameList same xs ys

@@ -1,8 +1,37 @@
-// Bytes and values: what every reader of a file takes apart.
+// Bytes and values, which every reader of a file takes apart; tests and masks.
 ghost use mathlib.Core.Path.{_≡_};
+ghost use mathlib.Core.Bool.{cond, _&&_};
 ghost use Prim.Native.Nat.{_+_, _<_, _≤_};
 ghost use lib.ListN.{getD, length};
 ghost use Rattle.base.specs.Value.{valueAt};
+ghost use Rattle.base.specs.Mask.{mask};
+
+// Both of two tests.
+pub fn both(a: bool, b: bool) -> bool
+    ensures { λ r. ⌜ r ≡ (a && b) ⌝ }
+{
+    if a { b } else { false }
+}
+
+// A flag as a bit.
+fn bit_of(flag: bool) -> u32
+    ensures { λ r. ⌜ (r ≡ cond flag 1 0) × (r < 2) ⌝ }
+{
+    if flag { 1 } else { 0 }
+}
+
+// The mask of eight flags: bit v set where flag v is.
+pub fn mask_of(flags: [bool; 8]) -> u32
+    ensures { λ r. ⌜ r ≡ mask flags ⌝ }
+{
+    let mut bits: u32 = 0;
+    let mut v: usize = 8;
+    while 0 < v {
+        v -= 1;
+        bits = bit_of(flags[v]) + 2 * bits;
+    }
+    bits
+}
 
 // A byte as a wider number.
 pub fn wide(x: u8) -> u32

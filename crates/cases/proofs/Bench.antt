@@ -11,6 +11,7 @@ use lib.ListN.{length, replicate}
 use lib.Dec.{leb, eqb}
 use Rattle.base.specs.Value.{bytesOf, valueAt}
 use Rattle.base.specs.Lists.{pad}
+use Rattle.base.specs.Mask.{mask}
 use Rattle.refusal.specs.Refusals.{line, reportOf}
 use Rattle.refusal.specs.declared.Report.{Report}
 use Rattle.event_log.specs.Log.{plain, rising, Log}
@@ -40,7 +41,7 @@ use Rattle.search.specs.declared.Verdict.{Verdict}
 use Rattle.search.specs.declared.Verdict.the-variants.{Refused, Absent, Accept, Reject}
 use Rattle.analysis.specs.declared.Outcome.{Outcome}
 use Rattle.analysis.specs.declared.Outcome.the-variants.{Done, Refused as Outcome·Refused}
-use Rattle.analysis.specs.Rows.{named, tiedAlike, subsumes, subsumed, verdict, mask, noneRow, row, rowsFrom}
+use Rattle.analysis.specs.Rows.{named, tiedAlike, subsumes, subsumed, verdict, noneRow, row, rowsFrom}
 use Rattle.analysis.specs.Analysis as Analysis
 use Rattle.analysis.specs.Analysis.{Analysed, analysis}
 use Rattle.analysis.specs.Text as Text

@@ -1,69 +1,54 @@
--- The mask of tied variables: below 256, and bit v is set exactly when variable v is tied.
+-- The mask of tied variables: made of flags that say which are tied; below 256, and bit v is set exactly when variable v is tied.
 use Prim.Native.Nat.{ℕ, zero, suc, _+_, _*_, _/_, _%_, _^_, _<_}
-use mathlib.Core.Path.{_≡_, _∙_}
+use mathlib.Core.Path.{_≡_, refl, ap, sym, _∙_}
 use mathlib.Core.Bool.{Bool, true, false, cond}
-use mathlib.Core.List.{List}
+use mathlib.Core.List.{List, [], _∷_}
 use native.Mathlib.Omega.{arith}
-use native.Mathlib.Nat.{pow-suc, mul-comm, mul-assoc, mul-add, mul-one, mul-zero, one-mul, zero-add, add-zero, not-suc-le-zero, le-of-suc-le-suc, div-div-eq-div-mul}
+use native.Mathlib.Nat.{pow-suc, mul-assoc, mul-add, mul-one, mul-zero, one-mul, zero-add}
+use lib.ListN.{length, getD}
+use Rattle.base.specs.Mask.{mask}
+use Rattle.base.proofs.Masks.{mask-below, mask-bit as flag-bit}
 use Rattle.formula.specs.Formula.{Formula}
 use Rattle.formula.specs.Lookup.{isTied, maskFrom, tiedMask}
 
--- a test as a bit
-bit : Bool → ℕ
-bit b = cond b 1 0
-
-bit-small : (b : Bool) → bit b < 2
-unfolding bit
-bit-small true = omega arith
-bit-small false = omega arith
-
--- the bits from variable v on as a number of their own
-digits : List ℕ → ℕ → ℕ → ℕ
-digits ws v zero = 0
-digits ws v (suc n) = bit (isTied v ws) + 2 * digits ws (suc v) n
-
-bit-shift : (b : Bool) (p d : ℕ) → cond b p 0 + p * 2 * d ≡ p * (bit b + 2 * d)
-unfolding bit
+bit-shift : (b : Bool) (p d : ℕ) → cond b p 0 + p * 2 * d ≡ p * (cond b 1 0 + 2 * d)
 bit-shift true p d = rw (mul-add p 1 (2 * d), mul-one, mul-assoc p 2 d)
 bit-shift false p d = rw (zero-add (2 * d), zero-add (p * 2 * d), mul-assoc p 2 d)
 
-mask-digits : (ws : List ℕ) (v n : ℕ) → maskFrom ws v n ≡ 2 ^ v * digits ws v n
-unfolding maskFrom digits
-mask-digits ws v zero = rw (mul-zero (2 ^ v))
-mask-digits ws v (suc n) = rw (mask-digits ws (suc v) n, pow-suc 2 v) (bit-shift (isTied v ws) (2 ^ v) (digits ws (suc v) n))
+-- flags that say which of the variables from v on are tied make their bits
+pub mask-from : (ws : List ℕ) (v : ℕ) (hs : List Bool) → ((k : ℕ) → k < length hs → getD hs k false ≡ isTied (v + k) ws) → maskFrom ws v (length hs) ≡ 2 ^ v * mask hs
+unfolding maskFrom mask
+mask-from ws v [] h = rw (mul-zero (2 ^ v))
+mask-from ws v (x ∷ hs) h =
+    let same : (a b : ℕ) → a ≡ b → isTied a ws ≡ isTied b ws = λ a b e. ap (λ n. isTied n ws) e in
+    let first : isTied v ws ≡ x = same v (v + 0) (omega arith) ∙ sym (h 0 (omega arith)) in
+    let rest = mask-from ws (suc v) hs (λ k i. h (suc k) (omega arith) ∙ same (v + suc k) (suc v + k) (omega arith)) in
+    rw (first, rest, pow-suc 2 v) (bit-shift x (2 ^ v) (mask hs))
 
-digits-small : (ws : List ℕ) (v n : ℕ) → digits ws v n < 2 ^ n
-unfolding digits
-digits-small ws v zero = omega arith
-digits-small ws v (suc n) =
-    let a = bit-small (isTied v ws) in
-    let b = digits-small ws (suc v) n in
-    let c = pow-suc 2 n in
-    omega arith
+-- which of the n variables from v on are tied
+flags : List ℕ → ℕ → ℕ → List Bool
+flags ws v zero = []
+flags ws v (suc n) = isTied v ws ∷ flags ws (suc v) n
 
-digits-bit : (ws : List ℕ) (v n k : ℕ) → k < n → digits ws v n / 2 ^ k % 2 ≡ bit (isTied (v + k) ws)
-unfolding digits
-digits-bit ws v zero k h = absurd (not-suc-le-zero h)
-digits-bit ws v (suc n) zero h =
-    let a = bit-small (isTied v ws) in
-    rw (add-zero v) (omega arith)
-digits-bit ws v (suc n) (suc k) h =
-    let x = bit (isTied v ws) + 2 * digits ws (suc v) n in
-    let a = bit-small (isTied v ws) in
-    let b : x / 2 ≡ digits ws (suc v) n = omega arith in
-    let c : 2 ^ suc k ≡ 2 * 2 ^ k = pow-suc 2 k ∙ mul-comm (2 ^ k) 2 in
-    let d : suc v + k ≡ v + suc k = omega arith in
-    rw (c, ← div-div-eq-div-mul x 2 (2 ^ k), b, digits-bit ws (suc v) n k (le-of-suc-le-suc h), d)
+length-flags : (ws : List ℕ) (v n : ℕ) → length (flags ws v n) ≡ n
+unfolding flags
+length-flags ws v zero = refl
+length-flags ws v (suc n) = ap suc (length-flags ws (suc v) n)
 
-whole : (f : Formula) → tiedMask f ≡ digits (f .tied) 0 8
-unfolding tiedMask
-whole f = mask-digits (f .tied) 0 8 ∙ one-mul (digits (f .tied) 0 8)
+flags-at : (ws : List ℕ) (v n k : ℕ) → k < n → getD (flags ws v n) k false ≡ isTied (v + k) ws
+unfolding flags
+flags-at ws v zero k h = absurd (omega arith)
+flags-at ws v (suc n) zero h = let e : v ≡ v + 0 = omega arith in ap (λ w. isTied w ws) e
+flags-at ws v (suc n) (suc k) h = let e : suc v + k ≡ v + suc k = omega arith in flags-at ws (suc v) n k (omega arith) ∙ ap (λ w. isTied w ws) e
+
+whole : (f : Formula) → tiedMask f ≡ mask (flags (f .tied) 0 8)
+unfolding tiedMask flags
+whole f = mask-from (f .tied) 0 (flags (f .tied) 0 8) (flags-at (f .tied) 0 8) ∙ one-mul (mask (flags (f .tied) 0 8))
 
 -- the mask is below 256
 pub mask-small : (f : Formula) → tiedMask f < 256
-mask-small f = rw (whole f) (digits-small (f .tied) 0 8)
+mask-small f = rw (whole f) (mask-below (flags (f .tied) 0 8) 8 (omega (arith, length-flags (f .tied) 0 8)))
 
 -- bit v of the mask is set exactly when v is tied
 pub mask-bit : (f : Formula) (v : ℕ) → v < 8 → tiedMask f / 2 ^ v % 2 ≡ cond (isTied v (f .tied)) 1 0
-unfolding bit
-mask-bit f v h = rw (whole f, digits-bit (f .tied) 0 8 v h, zero-add v)
+mask-bit f v h = rw (whole f) (flag-bit (flags (f .tied) 0 8) v ∙ ap (λ b. cond b 1 0) (flags-at (f .tied) 0 8 v h ∙ ap (λ w. isTied w (f .tied)) (zero-add v)))

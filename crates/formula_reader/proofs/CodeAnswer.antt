@@ -12,6 +12,7 @@ use borrow.Author.Tests.{lt-ltb}
 use lib.Dec.{ltb}
 use lib.ListN.{length, getD, drop, replicate, length-append, length-drop}
 use Rattle.base.specs.Lists.{Bytes, pad}
+use Rattle.base.specs.Mask.{mask}
 use Rattle.event_log.specs.Log.{Kind}
 use Rattle.refusal.specs.declared.File.the-variants.{Formula as InFormula}
 use Rattle.refusal.specs.declared.Refusal.{Refusal}
@@ -29,7 +30,7 @@ use Rattle.formula.specs.Read.{accepted, refused, Summary, start, assemble, fir
 use Rattle.formula_reader.specs.Places.{nowhere, lowestOf}
 use Rattle.formula_reader.specs.Scan.{emptyDraft, scanFile, Scanned}
 use Rattle.formula_reader.specs.Reach.{Free}
-use Rattle.formula_reader.specs.Answer.{maskOf, kindsOf, answerOf, acceptedWith, judgedWith}
+use Rattle.formula_reader.specs.Answer.{kindsOf, answerOf, acceptedWith, judgedWith}
 use Rattle.formula.proofs.Gather.{commands-assemble}
 use Rattle.formula.proofs.Reading.{advances, states-passed, reached-start, Complete, reached-end}
 use Rattle.formula.proofs.Table.{fill, fill-table}
@@ -166,7 +167,7 @@ module _ (fields : ℕ) (l : List ℕ) (w : Whole fields l (suc (length l)) star
   unfolding emptyDraft start
   table-is = table-after emptyDraft (w .es) ∙ ap (fill start 0 (replicate 128 0)) (sym same-commands) ∙ fill-table read-as (complete .counts)
 
-  tied-is : maskOf (draft .ties) ≡ tiedMask read-as
+  tied-is : mask (draft .ties) ≡ tiedMask read-as
   unfolding assemble tiedMask
   tied-is = mask-after (w .es)
 

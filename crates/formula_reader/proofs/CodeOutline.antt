@@ -1,15 +1,16 @@
 -- What the walk gathers is what the definition assembles: the table, the kinds, the tied variables, the first absent state.
-use Prim.Native.Nat.{ℕ, _+_, _-_, _<_}
+use Prim.Native.Nat.{ℕ, _+_, _*_, _<_}
 use mathlib.Core.Path.{_≡_, refl, sym, ap, _∙_, subst}
-use mathlib.Core.Bool.{Bool, true, false, cond, _||_}
+use mathlib.Core.Bool.{Bool, true, false, _||_}
 use mathlib.Core.List.{List, [], _∷_, _++_, map, append-nil}
 use native.Mathlib.Omega.{arith}
-use native.Mathlib.Nat.{add-zero}
+use native.Mathlib.Nat.{zero-add, one-mul}
 use borrow.Author.Tests.{eqb-true, eqb-false}
 use lib.Dec.{eqb}
 use lib.ListN.{length, getD, set, length-append, length-set, getD-replicate}
 use lib.Seq.{getD-set-same, getD-set-other, append-snoc}
 use Rattle.base.specs.Lists.{pad}
+use Rattle.base.specs.Mask.{mask}
 use Rattle.base.proofs.Lists.{set-pad}
 use Rattle.formula_reader.specs.declared.Draft.{Draft}
 use Rattle.formula.specs.Formula.{TEST, TESTV, BIND, State}
@@ -18,9 +19,9 @@ use Rattle.formula.specs.Lookup.{isTied, maskFrom}
 use Rattle.formula.specs.Read.{advance, gatherAll}
 use Rattle.formula_reader.specs.Take.{told}
 use Rattle.formula_reader.specs.Scan.{emptyDraft}
-use Rattle.formula_reader.specs.Answer.{maskOf}
 use Rattle.formula.proofs.Gather.{Follows}
 use Rattle.formula.proofs.Table.{filled, fill}
+use Rattle.formula.proofs.Ties.{mask-from}
 use Rattle.formula_reader.proofs.CodeTrace.{addC, draftAfter, told-add}
 
 pub or-true : (b : Bool) → (b || true) ≡ true
@@ -93,14 +94,26 @@ ties-at d (CLAUSE (TESTV f o v) ∷ cs) w h = ties-at (addC d (CLAUSE (TESTV f o
 ties-at d (CLAUSE (BIND f v) ∷ cs) w h = ties-at (addC d (CLAUSE (BIND f v))) cs w h
 ties-at d (GUARD x ∷ cs) w h = ties-at (addC d (GUARD x)) cs w h
 
+ties-length : (d : Draft) (cs : List Command) → length (draftAfter d cs .ties) ≡ length (d .ties)
+unfolding draftAfter
+ties-length d [] = refl
+ties-length d (TIED v ∷ cs) = ties-length (addC d (TIED v)) cs ∙ length-set (d .ties) v true
+ties-length d (STATE k ∷ cs) = ties-length (addC d (STATE k)) cs
+ties-length d (STEP t ∷ cs) = ties-length (addC d (STEP t)) cs
+ties-length d (CLAUSE (TEST f o x) ∷ cs) = ties-length (addC d (CLAUSE (TEST f o x))) cs
+ties-length d (CLAUSE (TESTV f o v) ∷ cs) = ties-length (addC d (CLAUSE (TESTV f o v))) cs
+ties-length d (CLAUSE (BIND f v) ∷ cs) = ties-length (addC d (CLAUSE (BIND f v))) cs
+ties-length d (GUARD x ∷ cs) = ties-length (addC d (GUARD x)) cs
+
 -- marks that are those of the tied variables make their mask
-mask-is : (m : List Bool) (ws : List ℕ) → ((w : ℕ) → w < 8 → getD m w false ≡ isTied w ws) → maskOf m ≡ maskFrom ws 0 8
-unfolding maskOf maskFrom
-mask-is m ws h = rw (h 0 (omega arith), h 1 (omega arith), h 2 (omega arith), h 3 (omega arith), h 4 (omega arith), h 5 (omega arith), h 6 (omega arith), h 7 (omega arith), add-zero (cond (isTied 7 ws) 128 0))
+mask-is : (m : List Bool) (ws : List ℕ) → length m ≡ 8 → ((w : ℕ) → w < 8 → getD m w false ≡ isTied w ws) → mask m ≡ maskFrom ws 0 8
+mask-is m ws n h =
+    let e : maskFrom ws 0 (length m) ≡ 1 * mask m = mask-from ws 0 m (λ w i. h w (omega arith) ∙ ap (λ v. isTied v ws) (sym (zero-add w))) in
+    sym (subst (λ k. maskFrom ws 0 k ≡ mask m) n (e ∙ one-mul (mask m)))
 
 -- the mask is that of the TIEDs
-pub mask-after : (cs : List Command) → maskOf (draftAfter emptyDraft cs .ties) ≡ maskFrom (gatherAll cs .tied) 0 8
+pub mask-after : (cs : List Command) → mask (draftAfter emptyDraft cs .ties) ≡ maskFrom (gatherAll cs .tied) 0 8
 unfolding emptyDraft
 mask-after cs =
-    mask-is (draftAfter emptyDraft cs .ties) (gatherAll cs .tied)
+    mask-is (draftAfter emptyDraft cs .ties) (gatherAll cs .tied) (ties-length emptyDraft cs)
     (λ w h. ties-at emptyDraft cs w h ∙ ap (λ b. b || isTied w (gatherAll cs .tied)) (getD-replicate 8 w false false h))

@@ -1,10 +1,11 @@
 -- What the reader of a formula answers.
-use Prim.Native.Nat.{ℕ, _+_}
-use mathlib.Core.Bool.{Bool, false, cond}
+use Prim.Native.Nat.{ℕ}
+use mathlib.Core.Bool.{cond}
 use mathlib.Core.List.{List, map}
 use lib.Dec.{ltb}
 use lib.ListN.{length, getD, replicate}
 use Rattle.base.specs.Lists.{pad}
+use Rattle.base.specs.Mask.{mask}
 use Rattle.refusal.specs.declared.File.the-variants.{Formula as InFormula}
 use Rattle.refusal.specs.declared.Refusal.{Refusal}
 use Rattle.refusal.specs.declared.Refusal.the-variants.{CutShort, Value, DeadStart, Unbound as UnboundAt}
@@ -18,11 +19,6 @@ use Rattle.formula.specs.Lookup.{stepTable, tiedMask}
 use Rattle.formula.specs.Read.{Reading, accepted, refused}
 use Rattle.formula_reader.specs.Places.{nowhere}
 
--- the marked ones of 8 variables as a mask, bit v for variable v
-unfoldable pub maskOf : List Bool → ℕ
-maskOf m =
-    cond (getD m 0 false) 1 0 + (cond (getD m 1 false) 2 0 + (cond (getD m 2 false) 4 0 + (cond (getD m 3 false) 8 0 + (cond (getD m 4 false) 16 0 + (cond (getD m 5 false) 32 0 + (cond (getD m 6 false) 64 0 + cond (getD m 7 false) 128 0))))))
-
 -- the kinds of the states, 0 where there is none
 unfoldable pub kindsOf : List State → List ℕ
 kindsOf xs = pad 16 0 (map (λ (x : State). kindByte (x .kind)) xs)
@@ -34,7 +30,7 @@ answerOf (refused r) = record { verdict = Refused r; states = 0; kinds = replica
 
 -- the answer of an accepted formula, from what was gathered of it
 abbrev pub acceptedWith : Draft → FormulaReading
-acceptedWith d = record { verdict = Accepted; states = d .summary .states; kinds = d .kinds; table = d .table; tied = maskOf (d .ties) }
+acceptedWith d = record { verdict = Accepted; states = d .summary .states; kinds = d .kinds; table = d .table; tied = mask (d .ties) }
 
 -- after END: an absent state, a dead start, an unbound variable, in this order; the first place of each, or nowhere
 unfoldable pub judgedWith : Draft → ℕ → ℕ → FormulaReading

@@ -1,5 +1,4 @@
 // The states that paths reach without binding a variable.
-use crate::commands::both;
 ghost use mathlib.Core.Path.{_≡_};
 ghost use mathlib.Core.Bool.{true, false};
 ghost use Prim.Native.Nat.{_≤_, _<_};
@@ -32,7 +31,7 @@ fn with_mark(m: [bool; 16], t: usize) -> [bool; 16]
 fn mark_step(m: [bool; 16], from: usize, to: usize, bound: bool) -> [bool; 16]
     ensures { λ r. ⌜ r ≡ markBy m from to bound ⌝ }
 {
-    if both(marked(m, from), !bound) {
+    if base::both(marked(m, from), !bound) {
         return with_mark(m, to);
     }
     m

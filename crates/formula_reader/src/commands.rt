@@ -34,24 +34,14 @@ fn opcode_of(b: u8) -> Opcode
     }
 }
 
-// Both tests hold.
-pub fn both(a: bool, b: bool) -> bool
-    ensures { λ r. ⌜ r ≡ (a && b) ⌝ }
-{
-    if a {
-        return b;
-    }
-    false
-}
-
 // There is one, and the flag is not set.
 fn some_without(n: usize, flag: bool) -> bool
     ensures { λ r. ⌜ r ≡ (ltb 0 n && not flag) ⌝ }
 {
     if flag {
-        return both(0 < n, false);
+        return base::both(0 < n, false);
     }
-    both(0 < n, true)
+    base::both(0 < n, true)
 }
 
 // Whether the command is allowed here.
@@ -150,7 +140,13 @@ fn take_test(part: &[u8], at: usize, fields: usize) -> Next
 {
     let f = base::byte_at(part, 1) as usize;
     let o = base::byte_at(part, 2);
-    operands_at(part, at, 7, both(f < fields, is_operator(o)), Command::Test)
+    operands_at(
+        part,
+        at,
+        7,
+        base::both(f < fields, is_operator(o)),
+        Command::Test,
+    )
 }
 
 // A TESTV, or its refusal.
@@ -164,7 +160,7 @@ fn take_testv(part: &[u8], at: usize, fields: usize) -> Next
         part,
         at,
         4,
-        both(both(f < fields, is_operator(o)), v < 8),
+        base::both(base::both(f < fields, is_operator(o)), v < 8),
         Command::Testv(v),
     )
 }
@@ -175,7 +171,7 @@ fn take_bind(part: &[u8], at: usize, fields: usize) -> Next
 {
     let f = base::byte_at(part, 1) as usize;
     let v = base::byte_at(part, 2) as usize;
-    operands_at(part, at, 3, both(f < fields, v < 8), Command::Bind(v))
+    operands_at(part, at, 3, base::both(f < fields, v < 8), Command::Bind(v))
 }
 
 // A GUARD with its expression, in a step of this state that binds the variables marked, or the refusal.

@@ -22,13 +22,11 @@ use crate::places::lowest_of;
 use refusal::File;
 use refusal::Refusal;
 ghost use mathlib.Core.Path.{_≡_};
-ghost use mathlib.Core.Bool.{cond};
 ghost use mathlib.Core.List.{List};
 ghost use Rattle.event_log.specs.Log.{Kind};
-ghost use Prim.Native.Nat.{_≤_};
 ghost use lib.ListN.{length};
 ghost use Rattle.formula.specs.Read.{refused, readFormula};
-ghost use Rattle.formula_reader.specs.Answer.{answerOf, maskOf, acceptedWith, judgedWith, refusalIn};
+ghost use Rattle.formula_reader.specs.Answer.{answerOf, acceptedWith, judgedWith, refusalIn};
 ghost use Rattle.formula_reader.specs.Scan.{emptyDraft, stopped, finishedWith, Scanned};
 
 // Whether a formula is accepted.
@@ -245,25 +243,6 @@ fn refusal_in(v: Verdict) -> Refusal
     }
 }
 
-// The bit where the flag is set, else 0.
-fn bit_if(flag: bool, bit: u32) -> u32
-    ensures { λ r. ⌜ (r ≡ cond flag bit 0) × (r ≤ bit) ⌝ }
-{
-    if flag {
-        return bit;
-    }
-    0
-}
-
-// The tied variables as a mask: bit v for variable v.
-fn mask_of(ties: [bool; 8]) -> u32
-    ensures { λ r. ⌜ r ≡ maskOf ties ⌝ }
-{
-    let high = bit_if(ties[4], 16)
-        + (bit_if(ties[5], 32) + (bit_if(ties[6], 64) + bit_if(ties[7], 128)));
-    bit_if(ties[0], 1) + (bit_if(ties[1], 2) + (bit_if(ties[2], 4) + (bit_if(ties[3], 8) + high)))
-}
-
 // The answer of an accepted formula, from what was gathered of it.
 fn accepted_with(d: Draft) -> FormulaReading
     ensures { λ a. ⌜ a ≡ acceptedWith d ⌝ }
@@ -277,7 +256,7 @@ fn accepted_with(d: Draft) -> FormulaReading
         states: s.states,
         kinds,
         table,
-        tied: mask_of(ties),
+        tied: base::mask_of(ties),
     }
 }
 

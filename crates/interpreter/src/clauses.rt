@@ -3,18 +3,12 @@ use crate::Configuration;
 use crate::Walked;
 use crate::guard::value_of;
 ghost use mathlib.Core.Path.{_≡_};
-ghost use mathlib.Core.Bool.{false, _&&_, _||_};
+ghost use mathlib.Core.Bool.{false, _||_};
 ghost use Prim.Native.Nat.{_<_, _+_, _^_};
 ghost use lib.ListN.{getD, length};
 ghost use Rattle.interpreter.specs.Bytes.{holdsBy, missedBy, isClause, tested, holding, bound, clauseAt, begun, walked};
 
-// Both of two tests, and either.
-pub fn both(a: bool, b: bool) -> bool
-    ensures { λ r. ⌜ r ≡ (a && b) ⌝ }
-{
-    if a { b } else { false }
-}
-
+// Either of two tests.
 fn either(a: bool, b: bool) -> bool
     ensures { λ r. ⌜ r ≡ (a || b) ⌝ }
 {
@@ -60,8 +54,8 @@ fn test(w: Walked, next: usize, operator: u32, x: u32, y: u32, rises: bool) -> W
 {
     let mut then = w;
     then.at = next;
-    then.passes = both(w.passes, holds(operator, x, y));
-    then.due = either(w.due, both(rises, missed(operator, x, y)));
+    then.passes = base::both(w.passes, holds(operator, x, y));
+    then.due = either(w.due, base::both(rises, missed(operator, x, y)));
     then
 }
 
@@ -90,7 +84,7 @@ fn bind(w: Walked, next: usize, v: u32, x: u32, rises: bool) -> Walked
     let mut then = hold(w, v, x, rises);
     let values = then.values;
     then.at = next;
-    then.passes = both(w.passes, x == value_of(&values, v));
+    then.passes = base::both(w.passes, x == value_of(&values, v));
     then
 }
 

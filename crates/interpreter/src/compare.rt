@@ -3,7 +3,8 @@ use crate::Configuration;
 ghost use mathlib.Core.Path.{_≡_};
 ghost use mathlib.Core.Bool.{Bool·beq};
 ghost use lib.Dec.{eqb};
-ghost use Rattle.machine.specs.Configuration.{sameList, same};
+ghost use Rattle.base.specs.Lists.{sameList};
+ghost use Rattle.machine.specs.Configuration.{same};
 ghost use Rattle.interpreter.specs.Bytes.{configOf};
 
 // Whether two marks are the same.

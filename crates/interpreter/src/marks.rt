@@ -1,5 +1,4 @@
 // What an event alone says of a step: a TEST reads no variable, so one pass over a step's clauses serves every configuration.
-use crate::clauses::both;
 use crate::clauses::holds;
 use crate::clauses::mark_of;
 use crate::clauses::missed;
@@ -55,7 +54,7 @@ fn misses(f: &[u8], place: usize, rises: &[bool], event: &[u32]) -> bool
         x,
         base::value_inside(f, place + 3),
     );
-    both(mark_of(rises, field), late)
+    base::both(mark_of(rises, field), late)
 }
 
 // The mark of the STEP at an offset: a TEST of it is false on the event; a TEST of it is past due.

@@ -1,6 +1,5 @@
 // "Rising and falling are worked out on the expression, each from the other", by recursion over its bytes.
 use crate::Judged;
-use crate::clauses::both;
 use crate::clauses::mark_of;
 use crate::guard::leaf_used;
 use crate::guard::operand_count;
@@ -58,7 +57,7 @@ fn pair(a: Judged, b: Judged) -> Judged
     ensures { λ r. ⌜ r ≡ paired a b ⌝ }
 {
     Judged {
-        yes: both(a.yes, b.yes),
+        yes: base::both(a.yes, b.yes),
         used: 1 + a.used + b.used,
     }
 }
@@ -68,7 +67,7 @@ fn triple(a: Judged, b: Judged, d: Judged) -> Judged
     ensures { λ r. ⌜ r ≡ tripled a b d ⌝ }
 {
     Judged {
-        yes: both(a.yes, both(b.yes, d.yes)),
+        yes: base::both(a.yes, base::both(b.yes, d.yes)),
         used: 1 + a.used + b.used + d.used,
     }
 }
@@ -78,7 +77,7 @@ fn agree(a: Judged, z: Judged) -> Judged
     ensures { λ r. ⌜ r ≡ agreed a z ⌝ }
 {
     Judged {
-        yes: both(a.yes, z.yes),
+        yes: base::both(a.yes, z.yes),
         used: a.used,
     }
 }

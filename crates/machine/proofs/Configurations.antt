@@ -7,23 +7,10 @@ use native.Mathlib.Omega.{arith}
 use lib.ListN.{length, getD, set}
 use lib.Dec.{eqb}
 use borrow.Author.Tests.{eqb-true, eq-eqb}
-use Rattle.machine.specs.Configuration.{Config, sameList, same, addOne, total}
-use Rattle.machine.proofs.Tests.{and-left, and-right, and-true}
-
-module _ {A : Type 0} (test : A → A → Bool) where
-  -- lists that are the same are equal, where elements that are the same are
-  pub list-equal : ((x y : A) → test x y ≡ true → x ≡ y) → (xs ys : List A) → sameList test xs ys ≡ true → xs ≡ ys
-  list-equal f [] [] h = refl
-  list-equal f [] (y ∷ ys) h = absurd (false≢true h)
-  list-equal f (x ∷ xs) [] h = absurd (false≢true h)
-  list-equal f (x ∷ xs) (y ∷ ys) h =
-      let p : x ≡ y = f x y (and-left (test x y) (sameList test xs ys) h) in
-      let q : xs ≡ ys = list-equal f xs ys (and-right (test x y) (sameList test xs ys) h) in
-      cc
-
-  pub list-same : ((x : A) → test x x ≡ true) → (xs : List A) → sameList test xs xs ≡ true
-  list-same f [] = refl
-  list-same f (x ∷ xs) = and-true (test x x) (sameList test xs xs) (f x) (list-same f xs)
+use Rattle.base.specs.Lists.{sameList}
+use Rattle.base.proofs.Same.{list-equal, list-same}
+use Rattle.machine.specs.Configuration.{Config, same, addOne, total}
+use Rattle.machine.proofs.Tests.{and-left, and-right}
 
 bool-equal : (a b : Bool) → Bool·beq a b ≡ true → a ≡ b
 bool-equal true true h = refl

@@ -1,11 +1,11 @@
 -- "A configuration is a state, the held variables with values, and a counter per state."
 use Prim.Native.Nat.{ℕ, zero, suc, _+_, _<_}
 use mathlib.Core.Path.{_≡_}
-use mathlib.Core.Bool.{Bool, true, false, _&&_, Bool·beq}
+use mathlib.Core.Bool.{Bool, false, _&&_, Bool·beq}
 use mathlib.Core.List.{List, [], _∷_}
 use lib.ListN.{length, getD, replicate}
 use lib.Dec.{eqb}
-use Rattle.base.specs.Lists.{All}
+use Rattle.base.specs.Lists.{All, sameList}
 
 -- held and values have a place for each of the 8 variables, counters one for each of the 16 states that there can be;
 -- a value is 0 where its variable is not held, so that equal configurations are equal word by word
@@ -18,13 +18,6 @@ pub record Config : Type 0 where
 -- "The start configuration holds nothing, with counters 0"; "State 0 starts"
 unfoldable pub start : Config
 start = record { state = 0; held = replicate 8 false; values = replicate 8 0; counters = replicate 16 0 }
-
--- two lists have the same elements, by a test on elements
-abbrev pub sameList : {A : Type 0} → (A → A → Bool) → List A → List A → Bool
-sameList same [] [] = true
-sameList same [] (y ∷ ys) = false
-sameList same (x ∷ xs) [] = false
-sameList same (x ∷ xs) (y ∷ ys) = same x y && sameList same xs ys
 
 -- the distinct configurations are told apart by state, held variables, values and counters
 unfoldable pub same : Config → Config → Bool

@@ -1,16 +1,16 @@
--- Filling a list from the front, masks bit by bit, and lists written out.
+-- Filling a list from the front, the bits of a mask, and lists written out.
 use Prim.Native.Nat.{ℕ, zero, suc, _+_, _-_, _*_, _/_, _%_, _^_, _<_, _≤_}
 use mathlib.Core.Path.{_≡_, refl, ap, sym, _∙_}
-use mathlib.Core.Bool.{Bool, true, false, cond}
+use mathlib.Core.Bool.{Bool, true, false}
 use mathlib.Core.List.{List, [], _∷_, _++_, append-nil, append-assoc}
 use native.Mathlib.Numerals.{add-one}
-use native.Mathlib.Nat.{add-assoc, pow-suc, pow-succ', div-div-eq-div-mul}
+use native.Mathlib.Nat.{add-assoc, pow-succ', div-div-eq-div-mul}
 use native.Mathlib.Omega.{arith}
 use lib.ListN.{length, getD, take, drop, set, drop-of-length-le}
-use lib.Seq.{take-all, take-suc-set, drop-cons}
+use lib.Seq.{take-all, take-suc-set}
 use lib.Dec.{eqb}
+use Rattle.base.specs.Mask.{mask}
 use Rattle.base.proofs.Lists.{drop-next}
-use Rattle.analysis.specs.Rows.{mask}
 use Rattle.rows.specs.Starts.{bitsOf}
 
 module _ {A : Type 0} where
@@ -38,19 +38,6 @@ unfolding bitsOf
 bits-next whole held v rest h n e =
     let k : 8 - v ≡ suc (8 - (v + 1)) = omega arith in
     fill-next whole held (bitsOf (8 - (v + 1)) (rest / 2)) v (eqb (rest % 2) 1) (omega arith) (rw k at e)
-
--- one bit more of a mask is written, from the highest down
-pub mask-next : (held : List Bool) (v w : ℕ) → w + 1 ≡ v → w < length held → cond (getD held w false) 1 0 + 2 * mask (drop v held) ≡ mask (drop w held)
-unfolding mask
-mask-next held v w e h = rw (drop-cons held w false h, ← e, add-one w)
-
-pub mask-below : (hs : List Bool) (n : ℕ) → length hs ≤ n → mask hs < 2 ^ n
-unfolding mask
-mask-below [] zero h = omega arith
-mask-below [] (suc n) h = omega (arith, mask-below [] n (omega arith), pow-suc 2 n)
-mask-below (x ∷ hs) zero h = absurd (omega arith)
-mask-below (true ∷ hs) (suc n) h = omega (arith, mask-below hs n (omega arith), pow-suc 2 n)
-mask-below (false ∷ hs) (suc n) h = omega (arith, mask-below hs n (omega arith), pow-suc 2 n)
 
 -- a mask's bits are those that it was made of
 pub bits-mask : (hs : List Bool) → bitsOf (length hs) (mask hs) ≡ hs

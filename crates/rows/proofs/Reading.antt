@@ -7,9 +7,10 @@ use native.Mathlib.Omega.{arith}
 use lib.ListN.{length, getD, take, drop, length-append, take-append-drop}
 use lib.Seq.{take-all, take-at, drop-at, drop-drop, length-take-le}
 use lib.Dec.{eqb}
+use Rattle.base.specs.Mask.{mask}
 use Rattle.slots.specs.Words.{put}
 use Rattle.slots.proofs.Parts.{drop-put, part-put-before}
-use Rattle.analysis.specs.Rows.{NamedRun, mask, subsumed, verdict, noneRow, row}
+use Rattle.analysis.specs.Rows.{NamedRun, subsumed, verdict, noneRow, row}
 use Rattle.rows.specs.Starts.{bitsOf, runIn, runIf, runsIn}
 use Rattle.rows.proofs.Filling.{bits-mask, eight-all}
 

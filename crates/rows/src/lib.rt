@@ -5,10 +5,9 @@ use refusal::Refusal;
 use search::SearchAnswer;
 use search::Verdict;
 ghost use mathlib.Core.Path.{_≡_};
-ghost use mathlib.Core.Bool.{cond};
 ghost use Prim.Native.Nat.{_+_, _-_, _*_, _≤_, _<_, min};
 ghost use lib.ListN.{length, getD, take, drop};
-ghost use Rattle.analysis.specs.Rows.{tiedAlike, mask, row, subsumed, verdict};
+ghost use Rattle.analysis.specs.Rows.{tiedAlike, row, subsumed, verdict};
 ghost use Rattle.analysis.specs.Analysis.{analysis};
 ghost use Rattle.rows.specs.Starts.{namedOf, variables, agrees, bitsOf, runIn, runIf, runsIn, runOf, rowBy, isRefused};
 ghost use Rattle.rows.specs.Starts.{OneStart, AllStarts, WithFormula, WithLog, Leaves, passes};
@@ -35,26 +34,6 @@ fn held_in(mask: u32) -> [bool; 8]
         v += 1;
     }
     held
-}
-
-// The mask of the variables that are held.
-fn mask_of(held: [bool; 8]) -> u32
-    ensures { λ r. ⌜ r ≡ mask held ⌝ }
-{
-    let mut bits: u32 = 0;
-    let mut v: usize = 8;
-    while 0 < v {
-        v -= 1;
-        bits = bit_of(held[v]) + 2 * bits;
-    }
-    bits
-}
-
-// A flag as a bit.
-fn bit_of(held: bool) -> u32
-    ensures { λ r. ⌜ (r ≡ cond held 1 0) × (r < 2) ⌝ }
-{
-    if held { 1 } else { 0 }
 }
 
 // The eight values of a row.
@@ -175,7 +154,7 @@ fn row_of(rows: &[u32], tied: [bool; 8], start: usize, this: RowRun) -> [u32; 12
 {
     let verdict = verdict_of(rows, tied, start, this);
     let held = this.held;
-    let bits = mask_of(held);
+    let bits = base::mask_of(held);
     let x = this.values;
     [
         verdict,

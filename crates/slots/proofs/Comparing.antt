@@ -1,4 +1,4 @@
--- Comparing two lists from the front: what is left to compare from place i on.
+-- Comparing words: a word with a flag, trails from the front (what is left from place i on), and configurations part by part.
 use Prim.Native.Nat.{ℕ, zero, suc, _+_, _<_, _≤_, _/_, _%_, compare, Ordering, Ordering·lt, Ordering·eq, Ordering·gt, compare·zero-zero, compare·zero-suc, compare·suc-zero, compare·suc-suc}
 use mathlib.Core.Path.{_≡_, refl, _∙_}
 use mathlib.Core.Bool.{Bool, true, false, not, Bool·beq}
@@ -8,27 +8,12 @@ use native.Mathlib.Omega.{arith}
 use lib.ListN.{length, getD, take, drop, drop-of-length-le, List·getD-map}
 use lib.Dec.{eqb}
 use lib.Seq.{drop-cons}
+use Rattle.base.specs.Lists.{sameList}
 use Rattle.runs.specs.Order.{then, lex}
 use Rattle.slots.specs.declared.Thread.{Thread}
-use Rattle.slots.specs.Threads.{sameList, sameConfig, key}
+use Rattle.slots.specs.Threads.{sameConfig, key}
 use Rattle.slots.specs.Words.{bit, threadOf}
 use borrow.Author.Tests.{eq-eqb, ne-eqb}
-
-module _ {A : Type 0} (same : A → A → Bool) where
-  -- equal at place i: the rest decides
-  pub same-more : (xs ys : List A) (i : ℕ) (d : A) (b : Bool) → i < length xs → i < length ys → b ≡ sameList same (drop i xs) (drop i ys) → same (getD xs i d) (getD ys i d) ≡ true → b ≡ sameList same (drop (i + 1) xs) (drop (i + 1) ys)
-  unfolding sameList
-  same-more xs ys i d b hx hy e s = e ∙ rw (drop-cons xs i d, drop-cons ys i d, s, add-one i)
-
-  -- unequal at place i
-  pub same-not : (xs ys : List A) (i : ℕ) (d : A) (b : Bool) → i < length xs → i < length ys → b ≡ sameList same (drop i xs) (drop i ys) → same (getD xs i d) (getD ys i d) ≡ false → b ≡ false
-  unfolding sameList
-  same-not xs ys i d b hx hy e s = e ∙ rw (drop-cons xs i d, drop-cons ys i d, s)
-
-  -- nothing is left
-  pub same-all : (xs ys : List A) (i : ℕ) (b : Bool) → length xs ≤ i → length ys ≤ i → b ≡ sameList same (drop i xs) (drop i ys) → b ≡ true
-  unfolding sameList
-  same-all xs ys i b hx hy e = e ∙ rw (drop-of-length-le xs hx, drop-of-length-le ys hy)
 
 -- a word against a flag, by the flag
 pub agrees-held : (w : ℕ) (h : Bool) → h ≡ true → not (eqb w 0) ≡ Bool·beq (bit w) h

@@ -5,6 +5,7 @@ use mathlib.Core.Bool.{Bool, true, false, _&&_, Bool·beq}
 use mathlib.Core.List.{List, [], _∷_, _++_, map}
 use lib.ListN.{length, take, set}
 use lib.Dec.{eqb}
+use Rattle.base.specs.Lists.{sameList}
 use Rattle.runs.specs.Run.{Entry, Trail}
 use Rattle.runs.specs.Order.{order}
 use Rattle.slots.specs.declared.Thread.{Thread}
@@ -25,13 +26,6 @@ pub record Sized (t : Thread) : Type 0 where
   pub values-8 : length (t .values) ≡ 8
   pub counters-16 : length (t .counters) ≡ 16
   pub trail-32 : length (t .trail) ≡ 32
-
--- two lists have the same elements, by a test on elements
-unfoldable pub sameList : {A : Type 0} → (A → A → Bool) → List A → List A → Bool
-sameList same [] [] = true
-sameList same [] (y ∷ ys) = false
-sameList same (x ∷ xs) [] = false
-sameList same (x ∷ xs) (y ∷ ys) = same x y && sameList same xs ys
 
 -- the same configuration: state, held variables, values and counters; not the trail
 unfoldable pub sameConfig : Thread → Thread → Bool

@@ -6,7 +6,8 @@ ghost use lib.Dec.{eqb};
 ghost use Prim.Native.Nat.{_+_, _*_, _^_, _≤_, _<_, min};
 ghost use lib.ListN.{length, getD, drop};
 ghost use Rattle.runs.specs.Order.{lex, order};
-ghost use Rattle.slots.specs.Threads.{trailOf, sameList, sameConfig, comesAfter, Extended, key, sideOf, greaterOf, position};
+ghost use Rattle.base.specs.Lists.{sameList};
+ghost use Rattle.slots.specs.Threads.{trailOf, sameConfig, comesAfter, Extended, key, sideOf, greaterOf, position};
 ghost use Rattle.slots.specs.Words.{flag, bit, wordsOf, threadOf, threadAt, put, place, list, Inserted};
 
 // A configuration with its trail: 'a state, the held variables with values, and a counter per state', the number of steps taken and,

@@ -11,7 +11,7 @@ use Rattle.formula.specs.Formula.{Formula}
 use Rattle.runs.specs.Lists.{keep, gather}
 use Rattle.runs.specs.Order.{order}
 use Rattle.runs.specs.Search as Runs
-use Rattle.runs.proofs.Growth.{least-append, ending-final, ending-open}
+use Rattle.runs.proofs.Growth.{keep-append, least-append, ending-final, ending-open}
 use Rattle.machine.specs.Configuration.{Config}
 use Rattle.machine.specs.Machine.{machine, fireAt, final}
 use Rattle.slots.specs.declared.Thread.{Thread}
@@ -22,7 +22,7 @@ use Rattle.threads.specs.declared.Move.{Move}
 use Rattle.threads.specs.Setting.{Fit, conf, thread}
 use Rattle.threads.specs.Event.{bestBy, bestOf, waitingIn}
 use Rattle.threads.specs.Calls.{MovedBy, BestFits, Improved, moveBy}
-use Rattle.threads.proofs.Firing.{keep-append, firing-next}
+use Rattle.threads.proofs.Firing.{firing-next}
 use Rattle.threads.proofs.Listed.{waiting-next, waiting-done}
 
 module _ (g : Log) (fm : Formula) where

@@ -1,27 +1,16 @@
 -- The steps of a thread that fire, one step number at a time.
 use Prim.Native.Nat.{ℕ, suc}
 use mathlib.Core.Path.{_≡_, refl, ap, _∙_}
-use mathlib.Core.Bool.{Bool, true, false}
-use mathlib.Core.List.{List, [], _∷_, _++_}
+use mathlib.Core.List.{[], _++_}
 use mathlib.Core.Option.{Option, none, some}
 use Rattle.event_log.specs.Log.{Log}
 use Rattle.formula.specs.Formula.{Formula}
-use Rattle.runs.specs.Lists.{only, keep}
 use Rattle.runs.specs.Search as Runs
 use Rattle.machine.specs.Configuration.{Config}
 use Rattle.machine.specs.Machine.{machine, fireAt}
 use Rattle.slots.specs.declared.Thread.{Thread}
 use Rattle.threads.specs.Setting.{conf, thread}
 use Rattle.threads.specs.Calls.{moveBy}
-
-pub keep-append : {A : Type 0} (p : A → Bool) (xs ys : List A) → keep p (xs ++ ys) ≡ keep p xs ++ keep p ys
-unfolding keep
-keep-append p [] ys = refl
-keep-append p (x ∷ xs) ys = go (p x) (keep-append p xs ys)
-  where
-    go : (b : Bool) → keep p (xs ++ ys) ≡ keep p xs ++ keep p ys → only b x (keep p (xs ++ ys)) ≡ only b x (keep p xs) ++ keep p ys
-    go true e = ap (λ r. x ∷ r) e
-    go false e = e
 
 -- the steps from k on: what step k leaves, then those from the next on
 pub firing-next : (g : Log) (fm : Formula) (t : Thread) (n k s r : ℕ) → s ≡ suc r → Runs.firing (machine g fm) (thread g fm t) n k s ≡ moveBy g fm t n k ++ Runs.firing (machine g fm) (thread g fm t) n (suc k) r

@@ -2,11 +2,11 @@
 use Prim.Native.Nat.{ℕ, suc, _+_, _-_, _<_, _≤_}
 use mathlib.Core.Path.{_≡_, refl, ap, sym, _∙_, subst}
 use mathlib.Core.Logic.{_⊎_, inl, inr}
-use mathlib.Core.Bool.{Bool, true, false, not, _&&_, Bool·beq, true≢false, false≢true, and-false}
+use mathlib.Core.Bool.{Bool, true, false, not, _&&_, true≢false, false≢true, and-false}
 use mathlib.Core.List.{List, [], _∷_, _++_, map}
 use mathlib.Core.Option.{Option, none, some}
 use native.Mathlib.Omega.{arith}
-use lib.Dec.{leb, eqb}
+use lib.Dec.{leb}
 use lib.ListN.{length, drop, length-map}
 use borrow.Author.Tests.{le-leb, lt-leb, leb-true, leb-false}
 use Rattle.base.specs.Lists.{All}
@@ -15,36 +15,29 @@ use Rattle.formula.specs.Formula.{Formula}
 use Rattle.runs.specs.Lists.{only, keep, gather}
 use Rattle.runs.specs.Search as Runs
 use Rattle.runs.specs.Threads.{insert, insertWithin, candidates}
-use Rattle.runs.proofs.Growth.{candidates-cons}
+use Rattle.runs.proofs.Growth.{keep-append, candidates-cons}
 use Rattle.runs.proofs.Inserting.{chain, within-append, within-over, within-fits}
 use Rattle.runs.specs.Order.{order}
-use Rattle.machine.specs.Configuration.{Config, same, sameList as machineSameList}
+use Rattle.machine.specs.Configuration.{Config, same}
 use Rattle.machine.specs.Machine.{machine, fireAt, final}
 use Rattle.slots.specs.declared.Thread.{Thread}
-use Rattle.slots.specs.Threads.{trailOf, sameList, sameConfig, comesAfter, replaced, lesserThread, placed, insertThread}
+use Rattle.slots.specs.Threads.{trailOf, sameConfig, comesAfter, replaced, lesserThread, placed, insertThread}
 use Rattle.slots.specs.Words.{threadAt, place, list, Inserted}
 use Rattle.threads.specs.declared.Move.{Move}
 use Rattle.threads.specs.declared.Choice.{Choice}
 use Rattle.threads.specs.Setting.{Fit, conf, thread}
 use Rattle.threads.specs.Event.{waitingIn, Kept}
 use Rattle.threads.specs.Calls.{Going, MovedBy, Chosen, moveBy, Grown, Within, offered}
-use Rattle.threads.proofs.Firing.{keep-append, firing-next}
+use Rattle.threads.proofs.Firing.{firing-next}
 use Rattle.slots.proofs.Runs.{insert-in-all}
 use Rattle.threads.proofs.Steps.{trail-length}
 use Rattle.threads.proofs.Listed.{waiting-next, waiting-done}
 
 -- ---- the structs' threads are the machine's
 
-same-lists : {A : Type 0} (test : A → A → Bool) (xs ys : List A) → machineSameList test xs ys ≡ sameList test xs ys
-unfolding sameList
-same-lists test [] [] = refl
-same-lists test [] (y ∷ ys) = refl
-same-lists test (x ∷ xs) [] = refl
-same-lists test (x ∷ xs) (y ∷ ys) = ap (λ b. test x y && b) (same-lists test xs ys)
-
 same-config : (a b : Thread) → same (conf a) (conf b) ≡ sameConfig a b
 unfolding same sameConfig
-same-config a b = rw (same-lists Bool·beq (a .held) (b .held), same-lists eqb (a .values) (b .values), same-lists eqb (a .counters) (b .counters))
+same-config a b = refl
 
 insert-is : (g : Log) (fm : Formula) (b : Thread) (ths : List Thread) → map (thread g fm) (insertThread b ths) ≡ insert (machine g fm) (thread g fm b) (map (thread g fm) ths)
 insert-is g fm b ths = insert-in-all (machine g fm) conf same-config b ths

@@ -1,11 +1,10 @@
 -- `slots::same_flags` meets its contract: what is left to compare decides.
 use mathlib.Core.Bool.{false, Bool·beq}
 use Rattle.slots.specs.Words.{bit}
-use Rattle.slots.specs.Threads.{sameList}
-use Rattle.slots.proofs.Comparing.{same-more, same-not, same-all}
+use Rattle.base.proofs.Same.{Agreed, agreed-next, agreed-not, agreed-end}
 use native.Mathlib.Omega.{arith}
 use denote.Ref.{now}
-use lib.ListN.{length, getD, drop, length-map, List·getD-map}
+use lib.ListN.{length, getD, length-map, List·getD-map}
 use mathlib.Core.List.{map}
 use mathlib.Core.Path.{_≡_, refl, ap, sym, _∙_}
 use Prim.Native.Nat.{_-_, _≤_}
@@ -14,7 +13,7 @@ use Rattle.slots.proofs.same_flags.Statement.{statement}
 use Rattle.slots.proofs.same_flags.Tie as tie
 
 abbrev Inv-loop : tie.InvT-loop
-Inv-loop part held i₀ i = (i ≤ 8) × (sameList Bool·beq (map bit part) held ≡ sameList Bool·beq (drop i (map bit part)) (drop i held))
+Inv-loop part held i₀ i = (i ≤ 8) × Agreed Bool·beq false (map bit part) held i
 
 abbrev μ-loop : tie.MeasureT-loop
 μ-loop part held i₀ i = 8 - i
@@ -48,7 +47,7 @@ loop-again c =
     let p : length xs ≡ 8 = length-map (now (a .part)) bit ∙ (c .before .before .before .before .before .before .pre) in
     let h : length (a .t2) ≡ 8 = search needs in
     let e : c .before .agrees .result ≡ Bool·beq (getD xs (l .i) false) (getD (a .t2) (l .i) false) = c .before .agrees .ensures ∙ ap (λ w. Bool·beq w (getD (a .t2) (l .i) false)) (sym (List·getD-map bit (now (a .part)) (l .i) 0)) in
-    (omega arith, same-more Bool·beq xs (a .t2) (l .i) false (sameList Bool·beq xs (a .t2)) (omega arith) (omega arith) (l .inv .1) (sym e ∙ c .if1 .taken))
+    (omega arith, agreed-next Bool·beq false xs (a .t2) (l .i) (omega arith) (omega arith) (sym e ∙ c .if1 .taken) (l .inv .1))
 
 returns : tie.Need-returns Inv-loop μ-loop
 returns c =
@@ -58,7 +57,7 @@ returns c =
     let p : length xs ≡ 8 = length-map (now (a .part)) bit ∙ (c .before .before .before .before .before .before .pre) in
     let h : length (a .t2) ≡ 8 = search needs in
     let e : c .before .agrees .result ≡ Bool·beq (getD xs (l .i) false) (getD (a .t2) (l .i) false) = c .before .agrees .ensures ∙ ap (λ w. Bool·beq w (getD (a .t2) (l .i) false)) (sym (List·getD-map bit (now (a .part)) (l .i) 0)) in
-    sym (same-not Bool·beq xs (a .t2) (l .i) false (sameList Bool·beq xs (a .t2)) (omega arith) (omega arith) (l .inv .1) (sym e ∙ c .if1 .left))
+    agreed-not Bool·beq false xs (a .t2) (l .i) (omega arith) (omega arith) (sym e ∙ c .if1 .left) (l .inv .1)
 
 returns-2 : tie.Need-returns-2 Inv-loop μ-loop
 returns-2 c =
@@ -67,7 +66,7 @@ returns-2 c =
     let xs = map bit (now (a .part)) in
     let p : length xs ≡ 8 = length-map (now (a .part)) bit ∙ (c .before .before .before .pre) in
     let h : length (a .t2) ≡ 8 = search needs in
-    sym (same-all Bool·beq xs (a .t2) (l .i) (sameList Bool·beq xs (a .t2)) (omega arith) (omega arith) (l .inv .1))
+    agreed-end Bool·beq false xs (a .t2) (l .i) (omega arith) (omega arith) (l .inv .1)
 
 pub same-flags-spec : {M : Type 1} → statement M
 same-flags-spec =

@@ -1,19 +1,18 @@
 -- `slots::same_words` meets its contract: what is left to compare decides.
 use borrow.Author.Tests.{eq-eqb, ne-eqb}
 use lib.Dec.{eqb}
-use Rattle.slots.specs.Threads.{sameList}
-use Rattle.slots.proofs.Comparing.{same-more, same-not, same-all}
+use Rattle.base.proofs.Same.{Agreed, agreed-next, agreed-not, agreed-end}
 use native.Mathlib.Omega.{arith}
 use denote.Ref.{now}
-use lib.ListN.{length, drop}
-use mathlib.Core.Path.{_≡_, refl, sym}
+use lib.ListN.{length}
+use mathlib.Core.Path.{refl}
 use Prim.Native.Nat.{_-_, _≤_}
 use borrow.Author.Needs.{needs}
 use Rattle.slots.proofs.same_words.Statement.{statement}
 use Rattle.slots.proofs.same_words.Tie as tie
 
 abbrev Inv-loop : tie.InvT-loop
-Inv-loop part words i₀ i = (i ≤ length part) × (sameList eqb part words ≡ sameList eqb (drop i part) (drop i words))
+Inv-loop part words i₀ i = (i ≤ length part) × Agreed eqb 0 part words i
 
 abbrev μ-loop : tie.MeasureT-loop
 μ-loop part words i₀ i = length part - i
@@ -37,7 +36,7 @@ returns : tie.Need-returns Inv-loop μ-loop
 returns c =
     let a = c .before .before .before .before .before .args in
     let l = c .before .before .before .before .loop in
-    sym (same-not eqb (now (a .part)) (now (a .words)) (l .i) 0 (sameList eqb (now (a .part)) (now (a .words))) (omega arith) (omega arith) (l .inv .1) (ne-eqb _ _ (c .if1 .taken)))
+    agreed-not eqb 0 (now (a .part)) (now (a .words)) (l .i) (omega arith) (omega arith) (ne-eqb _ _ (c .if1 .taken)) (l .inv .1)
 
 add-i : tie.Need-add-i Inv-loop μ-loop
 add-i c = search needs
@@ -49,13 +48,13 @@ loop-again : tie.Need-loop-again Inv-loop μ-loop
 loop-again c =
     let a = c .before .before .before .before .before .args in
     let l = c .before .before .before .before .loop in
-    (omega arith, same-more eqb (now (a .part)) (now (a .words)) (l .i) 0 (sameList eqb (now (a .part)) (now (a .words))) (omega arith) (omega arith) (l .inv .1) (eq-eqb _ _ (c .if1 .left)))
+    (omega arith, agreed-next eqb 0 (now (a .part)) (now (a .words)) (l .i) (omega arith) (omega arith) (eq-eqb _ _ (c .if1 .left)) (l .inv .1))
 
 returns-2 : tie.Need-returns-2 Inv-loop μ-loop
 returns-2 c =
     let a = c .before .before .args in
     let l = c .before .loop in
-    sym (same-all eqb (now (a .part)) (now (a .words)) (l .i) (sameList eqb (now (a .part)) (now (a .words))) (omega arith) (omega arith) (l .inv .1))
+    agreed-end eqb 0 (now (a .part)) (now (a .words)) (l .i) (omega arith) (omega arith) (l .inv .1)
 
 pub same-words-spec : {M : Type 1} → statement M
 same-words-spec =

@@ -1,8 +1,8 @@
 -- `machine::same_marks` meets its contract: the marks before k agree.
-use Rattle.interpreter.proofs.CodeSame.{Agreed, agreed-start, agreed-next, agreed-not, agreed-end}
+use Rattle.base.proofs.Same.{Agreed, agreed-next, agreed-not, agreed-end}
 use borrow.Author.Tests.{not-true, not-false}
 use mathlib.Core.Bool.{false, Bool·beq}
-use mathlib.Core.Path.{_≡_, _∙_, sym}
+use mathlib.Core.Path.{_≡_, refl, _∙_, sym}
 use lib.ListN.{length}
 use native.Mathlib.Omega.{arith}
 use Prim.Native.Nat.{_-_, _≤_}
@@ -17,7 +17,7 @@ abbrev μ-loop : tie.MeasureT-loop
 μ-loop a b k₀ k = 8 - k
 
 loop-holds : tie.Need-loop-holds Inv-loop μ-loop
-loop-holds c = (omega arith, agreed-start Bool·beq false (c .args .t1) (c .args .t2))
+loop-holds c = (omega arith, refl)
 
 array-read-same-mark : tie.Need-array-read-same-mark Inv-loop μ-loop
 array-read-same-mark c = search needs

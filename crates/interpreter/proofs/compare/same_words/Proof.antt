@@ -1,9 +1,10 @@
 -- `machine::same_words` meets its contract: the words before k agree.
-use Rattle.interpreter.proofs.CodeSame.{Agreed, agreed-start, agreed-next, agreed-not, agreed-end, lengths-differ}
+use Rattle.base.proofs.Same.{Agreed, agreed-next, agreed-not, agreed-end, lengths-differ}
 use borrow.Author.Tests.{eq-eqb, ne-eqb}
 use lib.Dec.{eqb}
 use denote.Ref.{now}
 use lib.ListN.{length}
+use mathlib.Core.Path.{refl}
 use native.Mathlib.Omega.{arith}
 use Prim.Native.Nat.{_-_, _≤_}
 use borrow.Author.Needs.{needs}
@@ -20,7 +21,7 @@ returns : tie.Need-returns Inv-loop μ-loop
 returns c = lengths-differ eqb (now (c .before .args .a)) (now (c .before .args .b)) (c .if1 .taken)
 
 loop-holds : tie.Need-loop-holds Inv-loop μ-loop
-loop-holds c = (omega arith, agreed-start eqb 0 (now (c .before .args .a)) (now (c .before .args .b)))
+loop-holds c = (omega arith, refl)
 
 mul-if2 : tie.Need-mul-if2 Inv-loop μ-loop
 mul-if2 c = search needs

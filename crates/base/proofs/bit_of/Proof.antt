@@ -1,7 +1,7 @@
--- `rows::bit_of` meets its contract: 1 where it is held, else 0.
+-- `base::bit_of` meets its contract: 1 where the flag is set, else 0.
 use borrow.Author.Needs.{needs}
-use Rattle.rows.proofs.bit_of.Statement.{statement}
-use Rattle.rows.proofs.bit_of.Tie as tie
+use Rattle.base.proofs.bit_of.Statement.{statement}
+use Rattle.base.proofs.bit_of.Tie as tie
 
 returns : tie.Need-returns
 returns c = search needs

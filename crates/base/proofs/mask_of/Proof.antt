@@ -1,20 +1,20 @@
--- `rows::mask_of` meets its contract: from the highest variable down to v the bits are those of the flags from v on.
+-- `base::mask_of` meets its contract: from the highest flag down to v the bits are those of the flags from v on.
 use lib.ListN.{drop-of-length-le, length-drop, length, drop}
-use Rattle.rows.proofs.Filling.{mask-next, mask-below}
-use Rattle.analysis.specs.Rows.{mask}
+use Rattle.base.proofs.Masks.{mask-next, mask-below}
+use Rattle.base.specs.Mask.{mask}
 use native.Mathlib.Omega.{arith}
 use mathlib.Core.List.{[]}
 use mathlib.Core.Path.{_≡_, ap, sym, _∙_}
 use Prim.Native.Nat.{_-_, _≤_}
 use borrow.Author.Needs.{needs}
-use Rattle.rows.proofs.mask_of.Statement.{statement}
-use Rattle.rows.proofs.mask_of.Tie as tie
+use Rattle.base.proofs.mask_of.Statement.{statement}
+use Rattle.base.proofs.mask_of.Tie as tie
 
 abbrev Inv-loop : tie.InvT-loop
-Inv-loop held bits₀ v₀ bits v = (v ≤ 8) × (bits ≡ mask (drop v held))
+Inv-loop flags bits₀ v₀ bits v = (v ≤ 8) × (bits ≡ mask (drop v flags))
 
 abbrev μ-loop : tie.MeasureT-loop
-μ-loop held bits₀ v₀ bits v = v
+μ-loop flags bits₀ v₀ bits v = v
 
 loop-holds : tie.Need-loop-holds Inv-loop μ-loop
 unfolding mask
