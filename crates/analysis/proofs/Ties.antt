@@ -11,20 +11,14 @@ use Rattle.runs.specs.Lists.{In}
 use Rattle.runs.specs.Run.{Trail, last}
 use Rattle.machine.specs.Configuration.{Config}
 use Rattle.machine.specs.Firing.{isHeld, valueOf}
+use Rattle.base.proofs.Tests.{or-right}
+use Rattle.runs.proofs.Moves.{and-both}
 use Rattle.analysis.specs.Rows.{NamedRun, named, alike, tiedAlike, subsumes, subsumed}
 use Rattle.analysis.specs.Demand.{SameValue, both, neither}
-
-and-both : (a b : Bool) → (a && b) ≡ true → (a ≡ true) × (b ≡ true)
-and-both true b h = (refl, h)
-and-both false b h = absurd (false≢true h)
 
 or-one : (a b : Bool) → (a || b) ≡ true → (a ≡ true) ⊎ (b ≡ true)
 or-one true b h = inl refl
 or-one false b h = inr h
-
-or-right : (a b : Bool) → b ≡ true → (a || b) ≡ true
-or-right true b h = refl
-or-right false b h = h
 
 -- one variable: "held by both with one value or by neither"
 alike-in : (c d : Config) (v : ℕ) → alike (isHeld c v) (isHeld d v) (valueOf c v) (valueOf d v) ≡ true → SameValue c d v

@@ -20,14 +20,6 @@ cond-holds P false x y f g = g refl
 pub byte-case {ℓ} : {A : Type ℓ} (P : ℕ → A → Type 0) (b k : ℕ) (x y : A) → P k x → P b y → P b (cond (eqb b k) x y)
 byte-case P b k x y p q = cond-holds (P b) (eqb b k) x y (λ e. subst (λ j. P j x) (sym (eqb-true b k e)) p) (λ e. q)
 
-pub and-left : (a b : Bool) → a && b ≡ true → a ≡ true
-and-left true b e = refl
-and-left false b e = e
-
-pub and-right : (a b : Bool) → a && b ≡ true → b ≡ true
-and-right true b e = e
-and-right false b e = absurd (mathlib.Core.Bool.false≢true e)
-
 -- bytes behind a byte list's front are bytes
 pub bytes-drop : (n : ℕ) (l : List ℕ) → Bytes l → Bytes (drop n l)
 bytes-drop zero l h = h

@@ -14,7 +14,8 @@ use lib.Seq.{getD-set-same, getD-set-other}
 use Rattle.base.specs.Lists.{All}
 use Rattle.formula.specs.Formula.{Step, ordinary, State, Formula}
 use Rattle.formula.specs.Unbound.{binds, stepsOf, IsPath, Unbound, Edge, edgesFrom, mark, round, rounds, unbound, isUnbound}
-use Rattle.formula.proofs.Basics.{cond-holds, and-left, and-right, all-append, all-left, all-right}
+use Rattle.base.proofs.Tests.{and-left, and-right}
+use Rattle.formula.proofs.Basics.{cond-holds, all-append, all-left, all-right}
 
 abbrev edge : ℕ → Step → Edge
 edge s x = record { from = s; step = x }

@@ -15,7 +15,8 @@ use Rattle.formula.specs.Formula.{Operator, equal, unequal, less, greate
 use Rattle.formula.specs.Encode.{Command, TIED, STATE, STEP, CLAUSE, GUARD, encodeExpr, encodeClause, encodeCommand, operatorByte, kindByte}
 use Rattle.formula.specs.Correct.{size, depth, Value, Variable}
 use Rattle.formula.specs.Read.{Summary, Opcode, end-op, state-op, step-op, test-op, testv-op, bind-op, guard-op, tied-op, other-op, opcode, allowed, room, operatorOf, kindOf, ExprNext, expression, failed, readExpr, Next, command, end, bad, operands, guardOf, operandsOf, next}
-use Rattle.formula.proofs.Basics.{cond-holds, byte-case, and-left, and-right}
+use Rattle.base.proofs.Tests.{and-left, and-right}
+use Rattle.formula.proofs.Basics.{cond-holds, byte-case}
 use Rattle.formula.proofs.Exprs.{LeavesExist, Finds, expr-found, expr-read, value-below}
 
 -- a command is allowed behind what the summary tells, and within the stated counts and depth

@@ -8,6 +8,7 @@ use native.Mathlib.Numerals.{one-add}
 use borrow.Author.Tests.{ltb-true, ltb-false}
 use lib.Dec.{ltb}
 use lib.ListN.{length, getD}
+use Rattle.base.proofs.Tests.{and-left, and-right}
 use Rattle.base.specs.Value.{bytesOf, valueAt}
 use Rattle.refusal.specs.declared.File.the-variants.{Formula as InFormula}
 use Rattle.refusal.specs.declared.Refusal.{Refusal}
@@ -121,15 +122,6 @@ abbrev pub NextFacts : Summary → List ℕ → Next → Type 0
 NextFacts s bs (command c u) = CommandFacts s c u bs
 NextFacts s bs end = 0 < length bs
 NextFacts s bs (bad r) = Unit {0}
-
-and-left : (a b : Bool) → (a && b) ≡ true → a ≡ true
-and-left true b h = refl
-and-left false b h = h
-
-and-right : (a b : Bool) → (a && b) ≡ true → b ≡ true
-and-right true b h = h
-and-right false true h = refl
-and-right false false h = h
 
 either : (P : Next → Type 0) (t : Bool) (x y : Next) → (t ≡ true → P x) → (t ≡ false → P y) → P (cond t x y)
 either P true x y h k = h refl

@@ -12,30 +12,16 @@ use Rattle.interpreter.specs.declared.Configuration.{Configuration}
 use Rattle.interpreter.specs.declared.Fired.{Fired}
 use Rattle.interpreter.specs.declared.Walked.{Walked}
 use Rattle.interpreter.specs.Bytes.{holdsBy, missedBy, isClause, tested, holding, bound, clauseAt, walkFrom, begun, walked, fired, lapsed}
+use Rattle.base.proofs.Tests.{and-false, or-right}
+use Rattle.runs.proofs.Moves.{and-both, not-true}
 use Rattle.interpreter.specs.Marks.{MarkIs, widthOf, failsAt, missesAt}
 use Rattle.interpreter.proofs.CodeWalk.{Walking, clause-in, walking-start, walking-more}
 
 no : {A : Type 0} → false ≡ true → A
 no e = let n : _≡_ {A = ℕ} 0 1 = ap (λ b. cond b 1 0) e in absurd (omega arith)
 
-and-left : (a b : Bool) → a ≡ false → (a && b) ≡ false
-and-left a b h = rw h
-
-and-right : (a b : Bool) → b ≡ false → (a && b) ≡ false
-and-right true b h = h
-and-right false b h = refl
-
-or-right : (a b : Bool) → b ≡ true → (a || b) ≡ true
-or-right true b h = refl
-or-right false b h = h
-
-and-both : (a b : Bool) → (a && b) ≡ true → (a ≡ true) × (b ≡ true)
-and-both true b h = (refl, h)
-and-both false b h = no h
-
-not-so : (b : Bool) → not b ≡ true → b ≡ false
-not-so true h = no h
-not-so false h = refl
+and-fails : (a b : Bool) → a ≡ false → (a && b) ≡ false
+and-fails a b h = rw h
 
 -- a walk that does not pass goes on so
 test-fails : (w : Walked) (next o x y : ℕ) (r : Bool) → w .passes ≡ false → (tested w next o x y r) .passes ≡ false
@@ -141,8 +127,8 @@ module _ (f prior : List ℕ) (rises : List Bool) (event : List ℕ) (w : Walked
   unfolding clauseAt tested failsAt
   fails-here h =
       let p = and-both (eqb (getD f (w .at) 0) 0x12) _ h in
-      let q = not-so _ (p .1) in
-      rw (p .0) (and-right (w .passes) _ q)
+      let q = not-true _ (p .1) in
+      rw (p .0) (and-false (w .passes) _ q)
 
   misses-here : failsAt f (getD f (w .at) 0) (w .at) event ≡ true → missesAt f (w .at) rises event ≡ true → (clauseAt f prior rises event w) .due ≡ true
   unfolding clauseAt tested failsAt missesAt
@@ -199,7 +185,7 @@ module _ (f event : List ℕ) (at : ℕ) where
       let s = r c (replicate 8 false) in
       let p : (walkFrom (suc (length f)) f (c .values) (replicate 8 false) event (begun at c)) .passes ≡ false
       = ap (λ (v : Walked). v .passes) (s .walking .ahead) ∙ walk-fails f (c .values) (replicate 8 false) event (s .walking .left) (s .w) (s .blocked b) in
-      go (leb (length f) at) _ _ refl (and-left _ _ p)
+      go (leb (length f) at) _ _ refl (and-fails _ _ p)
     where
       go : (t : Bool) (a d : Fired) → a .fires ≡ false → d .fires ≡ false → (cond t a d) .fires ≡ false
       go true a d h k = h

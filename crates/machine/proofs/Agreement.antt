@@ -14,7 +14,7 @@ use Rattle.machine.specs.Configuration.{Config, Valid}
 use Rattle.machine.specs.Guard.{guardHolds}
 use Rattle.machine.specs.Firing.{holds, field, valueOf, isHeld, bindAll, leave, passes, allPass, fires}
 use Rattle.machine.specs.Expiry.{firstBind}
-use Rattle.machine.proofs.Tests.{and-left, and-right, and-true}
+use Rattle.base.proofs.Tests.{and-left, and-right, and-true}
 use Rattle.machine.proofs.Binding.{bind-keeps, bind-first, taken}
 
 -- a step with these clauses has the clause

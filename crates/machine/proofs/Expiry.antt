@@ -15,7 +15,7 @@ use Rattle.machine.specs.Configuration.{Config, Valid, addOne}
 use Rattle.machine.specs.Guard.{value, guardHolds}
 use Rattle.machine.specs.Firing.{holds, field, valueOf, isHeld, bindAll, leave, passes, allPass, fires, fire}
 use Rattle.machine.specs.Expiry.{rises, firstBind, fieldRises, rising, missed, pastDue, anyPastDue, guardFalls, expired}
-use Rattle.machine.proofs.Tests.{and-left, and-right, and-keep, and-false, or-keep, or-false, not-true-false}
+use Rattle.base.proofs.Tests.{and-left, and-right, and-keep, and-false, or-keep, or-false, not-true-false}
 use Rattle.machine.proofs.Binding.{bind-keeps, bind-shape, bind-first, taken}
 use Rattle.machine.proofs.Trend.{Trend, trend, truth-down}
 

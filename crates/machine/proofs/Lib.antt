@@ -1,5 +1,4 @@
 -- Laws of one step: same configurations, binding, rising and falling, expiry, the machine, examples.
-pub mod Tests
 pub mod Configurations
 pub mod Binding
 pub mod Trend

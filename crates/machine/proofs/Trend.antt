@@ -14,7 +14,7 @@ use Rattle.machine.specs.Configuration.{Config}
 use Rattle.machine.specs.Guard.{truth, bit, value}
 use Rattle.machine.specs.Firing.{isHeld}
 use Rattle.machine.specs.Expiry.{rising, falling}
-use Rattle.machine.proofs.Tests.{and-left, and-right, or-keep, not-true-false}
+use Rattle.base.proofs.Tests.{and-left, and-right, or-keep, not-true-false}
 
 -- a test that is kept gives no smaller number
 bit-up : (p q : Bool) → (p ≡ true → q ≡ true) → bit p ≤ bit q

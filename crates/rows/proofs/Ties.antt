@@ -11,7 +11,7 @@ use lib.Seq.{drop-cons}
 use lib.Dec.{eqb}
 use Rattle.base.specs.Lists.{All}
 use Rattle.formula.specs.Lookup.{isTied}
-use Rattle.formula.proofs.Basics.{and-left, and-right}
+use Rattle.base.proofs.Tests.{and-left, and-right, and-true}
 use Rattle.analysis.specs.Rows.{NamedRun, alike, tiedAlike}
 use Rattle.rows.specs.Starts.{variablesFrom, variables, agrees}
 
@@ -73,13 +73,10 @@ tied-behind v w ws e = go (eqb w v)
     go true = refl
     go false = e
 
-both-true : (a b : Bool) → a ≡ true → b ≡ true → (a && b) ≡ true
-both-true a b e f = rw (e, f)
-
 alike-out : (ws : List ℕ) (a b : NamedRun) → ((v : ℕ) → isTied v ws ≡ true → at v a b ≡ true) → tiedAlike ws a b ≡ true
 unfolding tiedAlike
 alike-out [] a b f = refl
-alike-out (w ∷ ws) a b f = both-true (at w a b) (tiedAlike ws a b) (f w (tied-first w ws)) (alike-out ws a b (λ v h. f v (tied-behind v w ws h)))
+alike-out (w ∷ ws) a b f = and-true (at w a b) (tiedAlike ws a b) (f w (tied-first w ws)) (alike-out ws a b (λ v h. f v (tied-behind v w ws h)))
 
 -- a variable is among those of the flags exactly when its flag is set
 pub record Flagged (v k : ℕ) (bs : List Bool) : Type 0 where

@@ -1,4 +1,4 @@
--- Laws of tests that compute: conjunctions, disjunctions, and numbers compared.
+-- Laws of tests that compute: conjunctions and disjunctions.
 use mathlib.Core.Path.{_≡_, refl}
 use mathlib.Core.Bool.{Bool, true, false, _&&_, _||_, false≢true, true≢false}
 
@@ -34,6 +34,10 @@ or-false false b h k = k
 pub and-false : (a b : Bool) → b ≡ false → a && b ≡ false
 and-false true b h = h
 and-false false b h = refl
+
+pub or-right : (a b : Bool) → b ≡ true → a || b ≡ true
+or-right true b h = refl
+or-right false b h = h
 
 -- what is not true is false
 pub not-true-false : (a : Bool) → (a ≡ true → ⊥) → a ≡ false
