@@ -18,16 +18,19 @@ pub enum Kind {
     Quiet,
     /// No step of the first state ever fires.
     Still,
+    /// All 64 seats are taken from event 63 on; no step of theirs ever fires.
+    Full,
 }
 
 impl Kind {
-    pub const ALL: [Kind; 6] = [
+    pub const ALL: [Kind; 7] = [
         Kind::Ordinary,
         Kind::Guards,
         Kind::Committed,
         Kind::Overlap,
         Kind::Quiet,
         Kind::Still,
+        Kind::Full,
     ];
 
     pub fn name(self) -> &'static str {
@@ -38,6 +41,7 @@ impl Kind {
             Kind::Overlap => "overlap",
             Kind::Quiet => "quiet",
             Kind::Still => "still",
+            Kind::Full => "full",
         }
     }
 
@@ -71,6 +75,7 @@ pub fn pair(kind: Kind, events: usize) -> Pair {
         Kind::Overlap => overlap(),
         Kind::Quiet => quiet(),
         Kind::Still => still(),
+        Kind::Full => full(),
     };
     Pair {
         log: log_of(events as u32, period as u32),
@@ -230,4 +235,18 @@ fn quiet() -> Vec<Vec<u8>> {
 
 fn still() -> Vec<Vec<u8>> {
     vec![rest(0, 0)]
+}
+
+/// A thread an event for 63 events, beside the one that they come from; each
+/// tries eight steps of eight tests and binds and a guard of 31 commands on
+/// every event.
+fn full() -> Vec<Vec<u8>> {
+    let young = test(TIME, LESS_THAN, 64);
+    let begin = join(&[step(2), young, bind(TIME, 0), bind(1, 3)]);
+    let others = join(&[times(6, hopeless(REJECT_STATE)), vain(REJECT_STATE)]);
+    let source = join(&[state(0), others, begin]);
+    let open = join(&[seven(), bind(CODE, 2), guard(long_zero(var(2)))]);
+    let ends = times(7, join(&[step(ACCEPT_STATE), open.clone()]));
+    let waiting = join(&[state(0), ends, step(3), open]);
+    vec![first(bind(TIME, 7)), source, waiting, rest(3, 0)]
 }

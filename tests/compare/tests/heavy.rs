@@ -33,7 +33,15 @@ fn seats_nearly_full_and_never_crowded() {
             Kind::Ordinary | Kind::Guards | Kind::Committed => 60,
             Kind::Overlap | Kind::Quiet => 1,
             Kind::Still => 0,
+            Kind::Full => 59,
         };
         assert!(found.width >= least, "{kind:?}: {}", found.width);
     }
+}
+
+#[test]
+fn all_seats_full() {
+    let pair = pair(Kind::Full, EVENTS);
+    let found = search(&pair.log, &pair.formula, 0, WORDS).expect("no refusal");
+    assert_eq!(found.width, MOST_SEATS);
 }
