@@ -27,7 +27,7 @@ pub fn guard_holds(f: &[u8], at: usize, values: [u32; 8], counters: [u32; 16]) -
     let command = base::byte_at(f, at);
     if command == 0x15 {
         let from = at + 1;
-        let e = evaluate(&f[from..], values, counters, 8);
+        let e = evaluate(&f[from..], &values, &counters, 8);
         return 0 < e.value;
     }
     true

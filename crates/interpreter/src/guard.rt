@@ -69,14 +69,14 @@ pub fn value_of(values: &[u32], n: u32) -> u32
 }
 
 // The value of a command without operands.
-fn leaf_value(part: &[u8], values: [u32; 8], counters: [u32; 16]) -> u32
-    ensures { λ r. ⌜ r ≡ leafValue values counters (now (part .entry)) ⌝ }
+fn leaf_value(part: &[u8], values: &[u32], counters: &[u32]) -> u32
+    ensures { λ r. ⌜ r ≡ leafValue (now (values .entry)) (now (counters .entry)) (now (part .entry)) ⌝ }
 {
     let command = base::byte_at(part, 0);
     match command {
         0x20 => base::value_at(part, 1),
-        0x21 => value_of(&values, base::byte_at(part, 1)),
-        0x22 => value_of(&counters, base::byte_at(part, 1)),
+        0x21 => value_of(values, base::byte_at(part, 1)),
+        0x22 => value_of(counters, base::byte_at(part, 1)),
         _ => 0,
     }
 }
@@ -106,8 +106,8 @@ pub fn leaf_used(part: &[u8]) -> usize
 }
 
 // The value of the expression at the front, and the bytes that it takes; at most so many commands nested.
-pub fn evaluate(part: &[u8], values: [u32; 8], counters: [u32; 16], depth: usize) -> Evaluated
-    ensures { λ r. ⌜ r ≡ evaluated depth values counters (now (part .entry)) ⌝ }
+pub fn evaluate(part: &[u8], values: &[u32], counters: &[u32], depth: usize) -> Evaluated
+    ensures { λ r. ⌜ r ≡ evaluated depth (now (values .entry)) (now (counters .entry)) (now (part .entry)) ⌝ }
 {
     if depth == 0 {
         return Evaluated { value: 0, used: 0 };

@@ -21,14 +21,20 @@ part-evaluate-start c = let i = byte-inside (now (c .before .before .before .arg
 part-evaluate-end : tie.Need-part-evaluate-end
 part-evaluate-end c = search needs
 
+slice-aggregate-evaluate : tie.Need-slice-aggregate-evaluate
+slice-aggregate-evaluate c = search needs
+
+slice-aggregate-evaluate-2 : tie.Need-slice-aggregate-evaluate-2
+slice-aggregate-evaluate-2 c = search needs
+
 evaluate-requires : tie.Need-evaluate-requires
 evaluate-requires c κs = search needs
 
 returns : tie.Need-returns
-returns c = guard-read (now (c .before .before .before .before .before .before .args .f)) (c .before .before .before .before .before .before .args .at) (c .before .before .before .before .byte-at .result) (c .before .before .before .before .before .before .args .values) (c .before .before .before .before .before .before .args .counters) (c .before .evaluate .result) (c .before .before .before .before .byte-at .ensures .0) (c .before .before .before .if1 .taken) (c .before .evaluate .ensures)
+returns c = guard-read (now (c .before .before .before .before .before .before .before .before .args .f)) (c .before .before .before .before .before .before .before .before .args .at) (c .before .before .before .before .before .before .byte-at .result) (c .before .before .before .before .before .before .before .before .args .t3) (c .before .before .before .before .before .before .before .before .args .t4) (c .before .evaluate .result) (c .before .before .before .before .before .before .byte-at .ensures .0) (c .before .before .before .before .before .if1 .taken) (c .before .evaluate .ensures)
 
 returns-2 : tie.Need-returns-2
-returns-2 c = guard-none (now (c .before .before .before .args .f)) (c .before .before .before .args .at) (c .before .byte-at .result) (c .before .before .before .args .values) (c .before .before .before .args .counters) (c .before .byte-at .ensures .0) (c .if1 .left)
+returns-2 c = guard-none (now (c .before .before .before .args .f)) (c .before .before .before .args .at) (c .before .byte-at .result) (c .before .before .before .args .t3) (c .before .before .before .args .t4) (c .before .byte-at .ensures .0) (c .if1 .left)
 
 pub guard-holds-spec : {M : Type 1} → statement M
 guard-holds-spec =
@@ -39,6 +45,8 @@ guard-holds-spec =
     sub-evaluate
     part-evaluate-start
     part-evaluate-end
+    slice-aggregate-evaluate
+    slice-aggregate-evaluate-2
     evaluate-requires
     returns
     returns-2)

@@ -1,6 +1,7 @@
 -- `guard::leaf_value` meets its contract: by the command byte.
 use lib.ListN.{getD}
 use mathlib.Core.Path.{ap, _∙_, sym}
+use denote.Ref.{now}
 use borrow.Author.Tests.{ne-eqb}
 use Rattle.interpreter.specs.Bytes.{leafValue}
 use borrow.Author.Needs.{needs}
@@ -13,17 +14,11 @@ byte-at-requires c κs = search needs
 value-at-requires : tie.Need-value-at-requires
 value-at-requires c κs = search needs
 
-slice-aggregate-value-of : tie.Need-slice-aggregate-value-of
-slice-aggregate-value-of c = search needs
-
 byte-at-requires-2 : tie.Need-byte-at-requires-2
 byte-at-requires-2 c κs = search needs
 
 value-of-requires : tie.Need-value-of-requires
 value-of-requires c κs = search needs
-
-slice-aggregate-value-of-2 : tie.Need-slice-aggregate-value-of-2
-slice-aggregate-value-of-2 c = search needs
 
 byte-at-requires-3 : tie.Need-byte-at-requires-3
 byte-at-requires-3 c κs = search needs
@@ -37,11 +32,11 @@ returns c = rw (sym (c .before .before .byte-at .ensures .0), c .before .match .
 
 returns-2 : tie.Need-returns-2
 unfolding leafValue
-returns-2 c = rw (sym (c .before .before .before .before .byte-at .ensures .0), c .before .before .before .match .keys2) (c .value-of .ensures ∙ ap (λ v. getD (c .before .before .before .before .before .before .args .t2) v 0) (c .before .byte-at2 .ensures .0))
+returns-2 c = rw (sym (c .before .before .before .byte-at .ensures .0), c .before .before .match .keys2) (c .value-of .ensures ∙ ap (λ v. getD (now (c .before .before .before .before .before .before .before .args .values)) v 0) (c .before .byte-at2 .ensures .0))
 
 returns-3 : tie.Need-returns-3
 unfolding leafValue
-returns-3 c = rw (sym (c .before .before .before .before .byte-at .ensures .0), c .before .before .before .match .keys3) (c .value-of2 .ensures ∙ ap (λ v. getD (c .before .before .before .before .before .before .args .t3) v 0) (c .before .byte-at3 .ensures .0))
+returns-3 c = rw (sym (c .before .before .before .byte-at .ensures .0), c .before .before .match .keys3) (c .value-of2 .ensures ∙ ap (λ v. getD (now (c .before .before .before .before .before .before .before .args .counters)) v 0) (c .before .byte-at3 .ensures .0))
 
 returns-4 : tie.Need-returns-4
 unfolding leafValue
@@ -53,10 +48,8 @@ leaf-value-spec =
     (tie.spec
     byte-at-requires
     value-at-requires
-    slice-aggregate-value-of
     byte-at-requires-2
     value-of-requires
-    slice-aggregate-value-of-2
     byte-at-requires-3
     value-of-requires-2
     returns
