@@ -70,7 +70,7 @@ fn found(answer: &Result<Answer, Refusal>) -> Found {
             }
         }
     };
-    found_of(&answer)
+    found_of(answer)
 }
 
 /// What the library gives for an answer of the reference.
