@@ -1,4 +1,4 @@
--- What the reader keeps and gives while it walks a formula file.
+-- What the reader of a formula answers (Answer, which its promise names), and what its parts keep and hand on along the way.
 pub mod Places
 pub mod Prefix
 pub mod Take
