@@ -9,8 +9,9 @@ use mathlib.Core.Bool.{Bool}
 use mathlib.Core.List.{List, [], _∷_, _++_, List·Memᴰ·head, List·Memᴰ·not-nil, List·Memᴰ·eq-of-singleton, List·Memᴰ·append-cases, Memᴰ·append-left, Memᴰ·append-right}
 use lib.ListN.{length, drop, length-append, length-drop}
 use lib.Seq.{take-at, take-append-le, drop-append-le, drop-append-add, drop-drop}
-use borrow.Author.Tests.{le-ltb}
+use Rattle.refusal.specs.declared.Refusal.{Refusal}
 use Rattle.refusal.specs.declared.Refusal.the-variants.{Crowded}
+use Rattle.refusal.specs.Refusals.{NotCrowded}
 use Rattle.event_log.specs.Log.{Log}
 use Rattle.formula.specs.Formula.{Formula}
 use Rattle.runs.specs.Lists.{In}
@@ -26,9 +27,15 @@ use Rattle.search.proofs.Premises.{Accepted, accepted-premises}
 use Rattle.search.proofs.Demand.{met}
 use Rattle.analysis.specs.declared.Outcome.the-variants.{Done, Refused}
 use Rattle.analysis.specs.Rows.{NamedRun, named, verdict, noneRow, row, Written, all, upto, before, one, rowsFrom}
-use Rattle.analysis.specs.Analysis.{writtenInto, checked, analysis}
+use Rattle.analysis.specs.Analysis.{writtenInto, analysis}
 use Rattle.analysis.specs.Demand.{rowAt, Row, CrowdedFrom, FirstCrowded, Demand}
+use Rattle.analysis.proofs.Checks.{analysed}
 use Rattle.analysis.proofs.Row.{Source, Known, one-named, row-none, row-found}
+
+-- an analysis that runs is refused with nothing but crowded
+pub only-crowded : (w : Written) (rows : List ℕ) (why : Refusal) → writtenInto w rows .outcome ≡ Refused why → NotCrowded why → ⊥
+only-crowded (all ws) rows why e h = let z : _≡_ {A = ℕ} 0 1 = cc in omega arith
+only-crowded (upto i ws) rows why e h = h i (cc)
 
 -- ---- rows in words
 
@@ -260,8 +267,7 @@ module _ (log : Log) (formula : Formula) (P : Premises log formula) (slots : ℕ
 
 -- of accepted files, 192 work words or more and 12 row words an event or more, the analysis writes the rows of the runs
 pub analysis-runs : (l f : List ℕ) (log : Log) (formula : Formula) (words : ℕ) (lent : List ℕ) → Accepted l f log formula → 192 ≤ words → 12 * length (log .events) ≤ length lent → analysis l f words lent ≡ writtenInto (rowsFrom log formula (search (machine log formula) (slotsOf words)) (length (log .events)) 0 []) lent
-unfolding analysis checked
-analysis-runs l f log formula words lent a h k = rw (a .log-read, a .formula-read, le-ltb words 192 h, le-ltb (length lent) (12 * length (log .events)) k)
+analysis-runs l f log formula words lent a h k = analysed l f words lent log (a .log-read) formula (a .formula-read) h k
 
 -- The third demand on an analysis.
 pub third-demand : (l f : List ℕ) (log : Log) (formula : Formula) (words : ℕ) (lent : List ℕ) → Accepted l f log formula → 192 ≤ words → 12 * length (log .events) ≤ length lent → Demand log formula (slotsOf words) lent (analysis l f words lent)

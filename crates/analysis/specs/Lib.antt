@@ -1,5 +1,5 @@
--- Definitions of the analysis: rows, the analysis over files, the demand on its rows, the program's text.
+-- Definitions of the analysis: rows, the analysis over files, its entry's contract, the demand on its rows.
 pub mod Rows
 pub mod Analysis
+pub mod Call
 pub mod Demand
-pub mod Text

@@ -4,13 +4,18 @@ use mathlib.Core.Path.{_≡_, refl, ap}
 use mathlib.Core.List.{List, [], _∷_, _++_, append-nil, append-assoc, flatMap}
 use native.Mathlib.Numerals.{add-one}
 use native.Mathlib.Omega.{arith}
-use lib.ListN.{length, getD, drop, set}
+use lib.ListN.{length, getD, drop, set, replicate}
 use lib.Seq.{drop-cons}
-use Rattle.base.specs.Lists.{All, pad}
+use Rattle.base.specs.Lists.{All, Bytes, pad}
 
 -- a list from `at` on is the element there and the list from the next place on
 pub drop-next : (l : List ℕ) (at : ℕ) → at < length l → drop at l ≡ getD l at 0 ∷ drop (at + 1) l
 drop-next l at h = rw (add-one, drop-cons l at 0)
+
+-- a list whose every element is a byte
+pub all-bytes : (l : List ℕ) → ((i : ℕ) → getD l i 0 < 256) → Bytes l
+all-bytes [] h = tt
+all-bytes (x ∷ xs) h = (h 0, all-bytes xs (λ i. h (suc i)))
 
 module _ {A : Type 0} where
   pub length-pad : (n : ℕ) (d : A) (xs : List A) → length (pad n d xs) ≡ n
@@ -18,6 +23,12 @@ module _ {A : Type 0} where
   length-pad zero d xs = refl
   length-pad (suc n) d [] = ap suc (length-pad n d [])
   length-pad (suc n) d (x ∷ xs) = ap suc (length-pad n d xs)
+
+  -- a list of one element only is that element at every index
+  pub replicate-at : (n i : ℕ) (a : A) → getD (replicate n a) i a ≡ a
+  replicate-at zero i a = refl
+  replicate-at (suc n) zero a = refl
+  replicate-at (suc n) (suc i) a = replicate-at n i a
 
   -- padding does not change what is read
   pub getD-pad : (n : ℕ) (d : A) (xs : List A) (k : ℕ) → k < n → getD (pad n d xs) k d ≡ getD xs k d

@@ -1,6 +1,11 @@
--- Laws of tests that compute: conjunctions and disjunctions.
+-- Laws of tests that compute: choices, conjunctions and disjunctions.
 use mathlib.Core.Path.{_≡_, refl}
-use mathlib.Core.Bool.{Bool, true, false, _&&_, _||_, false≢true, true≢false}
+use mathlib.Core.Bool.{Bool, true, false, cond, _&&_, _||_, false≢true, true≢false}
+
+-- a choice has a property if each branch has it, given the test
+pub cond-holds : {A : Type 0} (P : A → Type 0) (t : Bool) (x y : A) → (t ≡ true → P x) → (t ≡ false → P y) → P (cond t x y)
+cond-holds P true x y f g = f refl
+cond-holds P false x y f g = g refl
 
 -- both parts of a conjunction hold
 pub and-left : (a b : Bool) → a && b ≡ true → a ≡ true

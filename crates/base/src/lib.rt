@@ -1,7 +1,7 @@
-// Bytes and values, which every reader of a file takes apart; tests and masks.
+// Bytes and values, which every reader of a file takes apart; tests, masks, the lower of two numbers.
 ghost use mathlib.Core.Path.{_≡_};
 ghost use mathlib.Core.Bool.{cond, _&&_};
-ghost use Prim.Native.Nat.{_+_, _<_, _≤_};
+ghost use Prim.Native.Nat.{_+_, _<_, _≤_, min};
 ghost use lib.ListN.{getD, length};
 ghost use Rattle.base.specs.Value.{valueAt};
 ghost use Rattle.base.specs.Mask.{mask};
@@ -11,6 +11,13 @@ pub fn both(a: bool, b: bool) -> bool
     ensures { λ r. ⌜ r ≡ (a && b) ⌝ }
 {
     if a { b } else { false }
+}
+
+// The lower of two numbers.
+pub fn lower(a: usize, b: usize) -> usize
+    ensures { λ r. ⌜ r ≡ min a b ⌝ }
+{
+    if a < b { a } else { b }
 }
 
 // A flag as a bit.

@@ -12,7 +12,7 @@ use Rattle.runs.proofs.Select.{threads-search}
 use Rattle.machine.specs.Machine.{machine}
 use Rattle.machine.proofs.Premises.{keeps, keeps-first}
 
-module _ (g : Log) (fm : Formula) (log : LogCorrect.Correct g) (formula : FormulaCorrect.Correct (g .fields) fm) where
+module _ (g : Log) (fm : Formula) (log : LogCorrect.Correct g) (formula : FormulaCorrect.Correct (length (g .fields)) fm) where
   -- the list of threads gives the search's answer
   pub threads-give : (slots i : ℕ) → i ≤ length (g .events) → threads (machine g fm) slots i ≡ search (machine g fm) slots i
   threads-give slots i h = threads-search (machine g fm) (keeps g fm log formula) slots i (rw (keeps-first g fm log formula) zero-le) h

@@ -4,4 +4,3 @@ pub mod Arrays
 pub mod Loop
 pub mod Turns
 pub mod Calls
-pub mod Entry

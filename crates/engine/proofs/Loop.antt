@@ -30,6 +30,7 @@ use Rattle.machine.proofs.Machine.{valid-start}
 use Rattle.slots.specs.declared.Thread.{Thread}
 use Rattle.slots.specs.Threads.{trailOf}
 use Rattle.slots.specs.Words.{wordsOf, threadOf, put, place, threadsFrom, list}
+use Rattle.slots.proofs.Slots.{threads-length}
 use Rattle.threads.specs.Setting.{Setting, Loads, Fit, conf, thread}
 use Rattle.threads.specs.Event.{Kept, waitingIn}
 use Rattle.search.specs.declared.Verdict.the-variants.{Absent, Accept, Reject}
@@ -38,12 +39,6 @@ use Rattle.search.specs.Search.{without, refusal, answerOf}
 use Rattle.engine.specs.Turn.{originThread, namedAnswer, TurnTo}
 use Rattle.engine.proofs.Exact.{threads-give}
 use Rattle.engine.proofs.Arrays.{accepts}
-
--- as many threads as slots are looked at
-length-threads : (half k n : ℕ) (l : List ℕ) → length (threadsFrom half k n l) ≡ n
-unfolding threadsFrom
-length-threads half k zero l = refl
-length-threads half k (suc n) l = ap suc (length-threads half (suc k) n l)
 
 -- what is loaded at the place of event n: its values, and the place of the next one
 pub event-there : (g : Log) (l : List ℕ) (fields n place : ℕ) (r : Loaded) → LogCorrect.Correct g → l ≡ encode g → fields ≡ length (g .fields) → n < length (g .events) → place ≡ eventPlace g n → r ≡ loadedAt l fields place
@@ -77,7 +72,7 @@ nobody M slots (suc k) n p = nobody M slots k (suc n) (max p 0) ∙ ap absent (o
 
 module _ (g : Log) (fm : Formula) where
   length-waiting : (half count : ℕ) (work : List ℕ) → length (waitingIn g fm half count work) ≡ count
-  length-waiting half count work = length-map (list half count work) (thread g fm) ∙ length-threads half 0 count work
+  length-waiting half count work = length-map (list half count work) (thread g fm) ∙ threads-length half 0 count work
 
   -- what holds before event n: the waiting list, with the largest width so far, leads to the search's answer
   pub record Going (slots i n place half count width : ℕ) (work : List ℕ) : Type 0 where

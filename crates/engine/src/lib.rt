@@ -7,16 +7,17 @@ use search::SearchAnswer;
 use search::Verdict;
 use slots::Thread;
 ghost use mathlib.Core.Path.{_≡_};
-ghost use mathlib.Core.Bool.{false, cond};
+ghost use mathlib.Core.Bool.{cond};
 ghost use mathlib.Core.List.{List, [], _∷_};
-ghost use Prim.Native.Nat.{ℕ, _+_, _*_, _≤_, _<_, min, max};
+ghost use Prim.Native.Nat.{ℕ, _+_, _*_, _≤_, _<_, max};
 ghost use lib.ListN.{length};
 ghost use lib.Dec.{eqb};
 ghost use Rattle.slots.specs.Words.{list};
-ghost use Rattle.search.specs.Search.{slotsOf, without, refusal, searchAnswer};
+ghost use Rattle.search.specs.Search.{slotsOf, without, refusal};
+ghost use Rattle.search.specs.Call.{Searched};
 ghost use Rattle.engine.specs.Turn.{StandsAt, originThread, entriesOf, verdictAt, namedAnswer, TurnIs, TurnOf, Fits, SearchedFrom};
 ghost use Rattle.threads.specs.Setting.{Wide};
-ghost use Rattle.engine.specs.Checks.{roomy, passes, CheckedIs, refusalOfLog, refusalOfFormula};
+ghost use Rattle.engine.specs.Checks.{CheckedIs, refusalOfLog, refusalOfFormula};
 
 // What one event does to a search: a run ends on it, more wait than there are slots, or so many wait after it.
 enum Outcome {
@@ -68,19 +69,12 @@ fn origin_in(work: &mut [u32])
     slots::store_slot(work, 0, 0, origin);
 }
 
-// The number of steps, at most 32.
-fn capped(steps: u32) -> usize
-    ensures { λ r. ⌜ r ≡ min steps 32 ⌝ }
-{
-    if steps < 32 { steps as usize } else { 32 }
-}
-
 // The events and step numbers of a thread's trail.
 fn entries_of(t: Thread) -> Entries
     ensures { λ r. ⌜ r ≡ entriesOf t ⌝ }
 {
     let trail = t.trail;
-    let steps = capped(t.steps);
+    let steps = slots::capped(t.steps);
     let mut events = [0u32; 32];
     let mut numbers = [0u32; 32];
     let mut k: usize = 0;
@@ -291,9 +285,8 @@ fn checked(
     work: &mut [u32],
 ) -> SearchAnswer
     requires { ⌜ log .events ≤ 1024 ⌝ }
-    ensures { λ r. ⌜ CheckedIs (now (l .entry)) log (now (f .entry)) formula start (length (now (work .entry))) r ⌝ }
-    ensures { λ r. ⌜ ((roomy (log .events) start (length (now (work .entry))) ≡ false → now (work .exit) ≡ now (work .entry)) × (length (now (work .exit)) ≡ length (now (work .entry)))) ⌝ }
-    ensures { λ r. ⌜ r .width ≤ slotsOf (length (now (work .entry))) ⌝ }
+    ensures { λ r. ⌜ CheckedIs (now (l .entry)) log (now (f .entry)) formula start (now (work .entry)) (now (work .exit)) r ⌝ }
+    ensures { λ r. ⌜ (length (now (work .exit)) ≡ length (now (work .entry))) × (r .width ≤ slotsOf (length (now (work .entry)))) ⌝ }
 {
     let events = log.events;
     if events <= start {
@@ -332,9 +325,7 @@ pub fn refusal_of_formula(v: formula_reader::Verdict) -> Refusal
 
 // The search from an event, over the bytes of the two files, with threads in the lent words.
 pub fn search(l: &[u8], f: &[u8], start: usize, work: &mut [u32]) -> SearchAnswer
-    ensures { λ r. ⌜ r ≡ searchAnswer (now (l .entry)) (now (f .entry)) start (length (now (work .entry))) ⌝ }
-    ensures { λ r. ⌜ ((passes (now (l .entry)) (now (f .entry)) start (length (now (work .entry))) ≡ false → now (work .exit) ≡ now (work .entry)) × (length (now (work .exit)) ≡ length (now (work .entry)))) ⌝ }
-    ensures { λ r. ⌜ r .width ≤ slotsOf (length (now (work .entry))) ⌝ }
+    ensures { λ r. ⌜ Searched (now (l .entry)) (now (f .entry)) start (now (work .entry)) (now (work .exit)) r ⌝ }
 {
     let log = event_log::read_log(l);
     let log_verdict = log.verdict;

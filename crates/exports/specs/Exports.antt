@@ -1,19 +1,27 @@
 -- What the static library hands on: the answers of the readers, the search and the analysis as numbers.
-use Prim.Native.Nat.{ℕ}
+use Prim.Native.Nat.{ℕ, _≤_}
+use mathlib.Core.Path.{_≡_}
+use mathlib.Core.List.{List}
+use lib.ListN.{length}
 use Rattle.refusal.specs.Refusals.{reportOf}
 use Rattle.refusal.specs.declared.Refusal.{Refusal}
 use Rattle.refusal.specs.declared.Report.{Report}
 use Rattle.event_log.specs.declared.Verdict as LogVerdict
 use Rattle.event_log.specs.declared.Verdict.the-variants as LogIs
 use Rattle.event_log.specs.declared.LogReading.{LogReading}
+use Rattle.event_log.specs.Read.{readLog, answerOf as logAnswer}
+use Rattle.formula.specs.Read.{readFormula}
 use Rattle.formula_reader.specs.declared.Verdict as FormulaVerdict
 use Rattle.formula_reader.specs.declared.Verdict.the-variants as FormulaIs
 use Rattle.formula_reader.specs.declared.FormulaReading.{FormulaReading}
+use Rattle.formula_reader.specs.Answer.{answerOf as formulaAnswer}
 use Rattle.search.specs.declared.Verdict as SearchVerdict
 use Rattle.search.specs.declared.Verdict.the-variants as SearchIs
 use Rattle.search.specs.declared.SearchAnswer.{SearchAnswer}
+use Rattle.search.specs.Search.{slotsOf, searchAnswer}
 use Rattle.analysis.specs.declared.Outcome as AnalysisOutcome
 use Rattle.analysis.specs.declared.Outcome.the-variants as AnalysisIs
+use Rattle.analysis.specs.Analysis.{analysis}
 use Rattle.exports.specs.declared.Refused.{Refused}
 use Rattle.exports.specs.declared.LogRead.{LogRead}
 use Rattle.exports.specs.declared.Found.{Found}
@@ -76,3 +84,27 @@ exportedSearch a =
       values = a .values;
       width = a .width;
     }
+
+-- The contracts of the exported functions.
+abbrev pub ExportsLog : List ℕ → LogRead → Type 0
+ExportsLog l r = r ≡ exportedLog (logAnswer (readLog l))
+
+abbrev pub ExportsFormula : List ℕ → ℕ → Refused → Type 0
+ExportsFormula f fields r = r ≡ exportedFormula (formulaAnswer (readFormula fields f))
+
+-- refused, and not with 11, every work word is as it was
+abbrev pub Untouched : Refused → List ℕ → List ℕ → Type 0
+Untouched r work after = (r .number ≡ 0 → ⊥) → (r .number ≡ 11 → ⊥) → after ≡ work
+
+pub record ExportsSearch (l f : List ℕ) (start : ℕ) (work after : List ℕ) (r : Found) : Type 0 where
+  pub answer : r ≡ exportedSearch (searchAnswer l f start (length work))
+  pub untouched : Untouched (r .refused) work after
+  pub number : length after ≡ length work
+  -- the width is at most the seats
+  pub within : r .width ≤ slotsOf (length work)
+
+pub record ExportsAnalysis (l f work work-after rows rows-after : List ℕ) (r : Refused) : Type 0 where
+  pub answer : r ≡ outcomeRefusal (analysis l f (length work) rows .outcome)
+  pub rows-are : rows-after ≡ analysis l f (length work) rows .rows
+  pub untouched : Untouched r work work-after
+  pub number : length work-after ≡ length work

@@ -2,18 +2,8 @@
 // struct of numbers. A slice passes as a pointer and a length.
 use refusal::Refusal;
 ghost use mathlib.Core.Path.{_≡_};
-ghost use mathlib.Core.Bool.{false};
-ghost use mathlib.Core.List.{List};
-ghost use lib.ListN.{length};
-ghost use Rattle.event_log.specs.Log.{Kind};
-ghost use Rattle.event_log.specs.Read.{readLog, answerOf as logAnswer};
-ghost use Rattle.formula.specs.Read.{readFormula};
-ghost use Rattle.formula_reader.specs.Answer.{answerOf as formulaAnswer};
-ghost use Rattle.search.specs.Search.{searchAnswer};
-ghost use Rattle.engine.specs.Checks.{passes as searchPasses};
-ghost use Rattle.analysis.specs.Analysis.{analysis};
-ghost use Rattle.rows.specs.Starts.{passes as analysisPasses};
-ghost use Rattle.exports.specs.Exports.{named, nothing, logRefusal, formulaRefusal, searchRefusal, verdictNumber, outcomeRefusal, exportedLog, exportedFormula, exportedSearch};
+ghost use Rattle.exports.specs.Exports.{named, nothing, logRefusal, formulaRefusal, searchRefusal, verdictNumber, outcomeRefusal};
+ghost use Rattle.exports.specs.Exports.{ExportsLog, ExportsFormula, ExportsSearch, ExportsAnalysis};
 
 // A refusal's file, number and place; number 0 where nothing is refused.
 #[repr(C)]
@@ -124,7 +114,7 @@ fn outcome_refusal(v: analysis::Outcome) -> Refused
 // Reads a log: its refusal, or the numbers of its fields and events.
 #[no_mangle]
 pub extern "C" fn hikwallu_read_log(l: &[u8]) -> LogRead
-    ensures { λ r. ⌜ r ≡ exportedLog (logAnswer (readLog (now (l .entry)))) ⌝ }
+    ensures { λ r. ⌜ ExportsLog (now (l .entry)) r ⌝ }
 {
     let reading = event_log::read_log(l);
     let verdict = reading.verdict;
@@ -138,18 +128,17 @@ pub extern "C" fn hikwallu_read_log(l: &[u8]) -> LogRead
 // Reads a formula against a log of so many fields: its refusal, if it has one.
 #[no_mangle]
 pub extern "C" fn hikwallu_read_formula(f: &[u8], fields: usize) -> Refused
-    ensures { λ r. ⌜ ((ks : List Kind) → length ks ≡ fields → r ≡ exportedFormula (formulaAnswer (readFormula ks (now (f .entry))))) ⌝ }
+    ensures { λ r. ⌜ ExportsFormula (now (f .entry)) fields r ⌝ }
 {
     let reading = formula_reader::read_formula(f, fields);
     let verdict = reading.verdict;
     formula_refusal(verdict)
 }
 
-// Searches one start with the lent work words, which stay as they are where a check refuses the call.
+// Searches one start with the lent work words, which stay as they are where the call is refused before it runs.
 #[no_mangle]
 pub extern "C" fn hikwallu_search(l: &[u8], f: &[u8], start: usize, work: &mut [u32]) -> Found
-    ensures { λ r. ⌜ r ≡ exportedSearch (searchAnswer (now (l .entry)) (now (f .entry)) start (length (now (work .entry)))) ⌝ }
-    ensures { λ _. ⌜ (searchPasses (now (l .entry)) (now (f .entry)) start (length (now (work .entry))) ≡ false → now (work .exit) ≡ now (work .entry)) ⌝ }
+    ensures { λ r. ⌜ ExportsSearch (now (l .entry)) (now (f .entry)) start (now (work .entry)) (now (work .exit)) r ⌝ }
 {
     let answer = engine::search(l, f, start, work);
     let verdict = answer.verdict;
@@ -169,7 +158,7 @@ pub extern "C" fn hikwallu_search(l: &[u8], f: &[u8], start: usize, work: &mut [
     }
 }
 
-// Searches every start and writes the rows; where a check refuses the call, the work words stay as they are, and so do the rows.
+// Searches every start and writes the rows; where the call is refused before it runs, work words and rows stay as they are.
 #[no_mangle]
 pub extern "C" fn hikwallu_analyse(
     l: &[u8],
@@ -177,9 +166,7 @@ pub extern "C" fn hikwallu_analyse(
     work: &mut [u32],
     rows: &mut [u32],
 ) -> Refused
-    ensures { λ r. ⌜ r ≡ outcomeRefusal (analysis (now (l .entry)) (now (f .entry)) (length (now (work .entry))) (now (rows .entry)) .outcome) ⌝ }
-    ensures { λ _. ⌜ now (rows .exit) ≡ analysis (now (l .entry)) (now (f .entry)) (length (now (work .entry))) (now (rows .entry)) .rows ⌝ }
-    ensures { λ _. ⌜ (analysisPasses (now (l .entry)) (now (f .entry)) (length (now (work .entry))) (length (now (rows .entry))) ≡ false → now (work .exit) ≡ now (work .entry)) ⌝ }
+    ensures { λ r. ⌜ ExportsAnalysis (now (l .entry)) (now (f .entry)) (now (work .entry)) (now (work .exit)) (now (rows .entry)) (now (rows .exit)) r ⌝ }
 {
     let outcome = rows::analyse(l, f, work, rows);
     outcome_refusal(outcome)

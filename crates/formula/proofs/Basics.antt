@@ -1,23 +1,19 @@
 -- Small laws on bytes, tests and expressions that the laws of reading cite.
 use Prim.Native.Nat.{ℕ, zero, suc}
-use mathlib.Core.Path.{_≡_, refl, sym, subst, ap, _∙_}
-use mathlib.Core.Bool.{Bool, true, false, cond, _&&_}
-use mathlib.Core.List.{List, [], _∷_, _++_, flatMap, append-assoc}
+use mathlib.Core.Path.{_≡_, sym, subst}
+use mathlib.Core.Bool.{cond}
+use mathlib.Core.List.{List, [], _∷_, _++_}
 use borrow.Author.Tests.{eqb-true}
 use lib.Dec.{eqb}
 use lib.ListN.{length, drop}
 use lib.Seq.{drop-at}
+use Rattle.base.proofs.Tests.{cond-holds}
 use Rattle.base.specs.Lists.{All, Bytes}
 use Rattle.formula.specs.Formula.{Expr, CONST, VAR, COUNT, ADD, SUB, LESS, ATMOST, EQUAL, NOT, AND, OR, IF}
 use Rattle.formula.specs.Correct.{Leaves}
 
--- a choice has a property if each branch has it, given the test
-pub cond-holds {ℓ} : {A : Type ℓ} (P : A → Type 0) (b : Bool) (x y : A) → (b ≡ true → P x) → (b ≡ false → P y) → P (cond b x y)
-cond-holds P true x y f g = f refl
-cond-holds P false x y f g = g refl
-
 -- a choice by a byte: the branch's property at that byte, or that of the other choices
-pub byte-case {ℓ} : {A : Type ℓ} (P : ℕ → A → Type 0) (b k : ℕ) (x y : A) → P k x → P b y → P b (cond (eqb b k) x y)
+pub byte-case : {A : Type 0} (P : ℕ → A → Type 0) (b k : ℕ) (x y : A) → P k x → P b y → P b (cond (eqb b k) x y)
 byte-case P b k x y p q = cond-holds (P b) (eqb b k) x y (λ e. subst (λ j. P j x) (sym (eqb-true b k e)) p) (λ e. q)
 
 -- bytes behind a byte list's front are bytes
@@ -50,10 +46,6 @@ pub all-both {ℓ} : {A : Type ℓ} (P Q R : A → Type 0) → ((x : A) → P x 
 all-both P Q R f [] p q = tt
 all-both P Q R f (x ∷ xs) p q = (f x (p .0) (q .0), all-both P Q R f xs (p .1) (q .1))
 
-pub all-append {ℓ} : {A : Type ℓ} (P : A → Type 0) (xs ys : List A) → All P xs → All P ys → All P (xs ++ ys)
-all-append P [] ys p q = q
-all-append P (x ∷ xs) ys p q = (p .0, all-append P xs ys (p .1) q)
-
 pub all-left {ℓ} : {A : Type ℓ} (P : A → Type 0) (xs ys : List A) → All P (xs ++ ys) → All P xs
 all-left P [] ys p = tt
 all-left P (x ∷ xs) ys p = (p .0, all-left P xs ys (p .1))
@@ -61,9 +53,3 @@ all-left P (x ∷ xs) ys p = (p .0, all-left P xs ys (p .1))
 pub all-right {ℓ} : {A : Type ℓ} (P : A → Type 0) (xs ys : List A) → All P (xs ++ ys) → All P ys
 all-right P [] ys p = p
 all-right P (x ∷ xs) ys p = all-right P xs ys (p .1)
-
--- what two lists give, one behind the other
-pub flat-append {ℓ κ} : {A : Type ℓ} {B : Type κ} (g : A → List B) (xs ys : List A) → flatMap g (xs ++ ys) ≡ flatMap g xs ++ flatMap g ys
-unfolding flatMap
-flat-append g [] ys = refl
-flat-append g (x ∷ xs) ys = ap (λ r. g x ++ r) (flat-append g xs ys) ∙ sym (append-assoc (g x) (flatMap g xs) (flatMap g ys))

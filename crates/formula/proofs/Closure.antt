@@ -14,8 +14,21 @@ use lib.Seq.{getD-set-same, getD-set-other}
 use Rattle.base.specs.Lists.{All}
 use Rattle.formula.specs.Formula.{Step, ordinary, State, Formula}
 use Rattle.formula.specs.Unbound.{binds, stepsOf, IsPath, Unbound, Edge, edgesFrom, mark, round, rounds, unbound, isUnbound}
-use Rattle.base.proofs.Tests.{and-left, and-right}
-use Rattle.formula.proofs.Basics.{cond-holds, all-append, all-left, all-right}
+use Rattle.base.proofs.Tests.{cond-holds, and-left, and-right}
+use Rattle.base.proofs.Lists.{All-append, replicate-at}
+use Rattle.formula.proofs.Basics.{all-left, all-right}
+
+-- one path that binds v nowhere is enough: a marked state stays marked, whatever the steps of other paths bind
+set-keeps : (m : List Bool) (k t : ℕ) → getD m t false ≡ true → getD (set m k true) t false ≡ true
+set-keeps [] k t h = h
+set-keeps (x ∷ m) zero zero h = refl
+set-keeps (x ∷ m) zero (suc t) h = h
+set-keeps (x ∷ m) (suc k) zero h = h
+set-keeps (x ∷ m) (suc k) (suc t) h = set-keeps m k t h
+
+mark-keeps : (v : ℕ) (m : List Bool) (e : Edge) (t : ℕ) → getD m t false ≡ true → getD (mark v m e) t false ≡ true
+unfolding mark
+mark-keeps v m e t h = cond-holds (λ r. getD r t false ≡ true) (getD m (e .from) false && not (binds v (e .step .clauses))) (set m (e .step .target) true) m (λ c. set-keeps m (e .step .target) t h) (λ c. h)
 
 abbrev edge : ℕ → Step → Edge
 edge s x = record { from = s; step = x }
@@ -28,7 +41,7 @@ noState = record { kind = ordinary; steps = [] }
 edges-in : (P : Edge → Type 0) (xs : List State) (s : ℕ) → ((i : ℕ) (x : Step) → List·Memᴰ x (getD xs i noState .steps) → P (edge (s + i) x)) → All P (edgesFrom s xs)
 unfolding edgesFrom
 edges-in P [] s h = tt
-edges-in P (y ∷ ys) s h = all-append P (map (edge s) (y .steps)) (edgesFrom (suc s) ys) (each (y .steps) (λ x m. rw (add-zero s) at (h 0 x m))) (edges-in P ys (suc s) (λ i x m. subst (λ j. P (edge j x)) (add-suc s i ∙ sym (suc-add s i)) (h (suc i) x m)))
+edges-in P (y ∷ ys) s h = All-append P (map (edge s) (y .steps)) (edgesFrom (suc s) ys) (each (y .steps) (λ x m. rw (add-zero s) at (h 0 x m))) (edges-in P ys (suc s) (λ i x m. subst (λ j. P (edge j x)) (add-suc s i ∙ sym (suc-add s i)) (h (suc i) x m)))
   where
     each : (ts : List Step) → ((x : Step) → List·Memᴰ x ts → P (edge s x)) → All P (map (edge s) ts)
     each [] k = tt
@@ -54,7 +67,7 @@ Marked : Formula → ℕ → List Bool → Type 0
 Marked f v m = (t : ℕ) → getD m t false ≡ true → Unbound f v t
 
 extend : (f : Formula) (v : ℕ) (e : Edge) → Unbound f v (e .from) → List·Memᴰ (e .step) (stepsOf f (e .from)) → binds v (e .step .clauses) ≡ false → Unbound f v (e .step .target)
-extend f v e u i b = record { path = u .path ++ (e .step ∷ []); leads = path-snoc f (u .path) 0 (e .from) (e .step) (u .leads) i; nowhere = all-append (λ (x : Step). binds v (x .clauses) ≡ false) (u .path) (e .step ∷ []) (u .nowhere) (b, tt) }
+extend f v e u i b = record { path = u .path ++ (e .step ∷ []); leads = path-snoc f (u .path) 0 (e .from) (e .step) (u .leads) i; nowhere = All-append (λ (x : Step). binds v (x .clauses) ≡ false) (u .path) (e .step ∷ []) (u .nowhere) (b, tt) }
 
 mark-sound : (f : Formula) (v : ℕ) (m : List Bool) (e : Edge) → List·Memᴰ (e .step) (stepsOf f (e .from)) → Marked f v m → Marked f v (mark v m e)
 unfolding mark Marked
@@ -83,12 +96,7 @@ starts = true ∷ replicate 15 false
 starts-sound : (f : Formula) (v : ℕ) → Marked f v starts
 unfolding Marked starts
 starts-sound f v zero q = record { path = []; leads = refl; nowhere = tt }
-starts-sound f v (suc t) q = absurd (false≢true (sym (none-marked t 15) ∙ q))
-  where
-    none-marked : (t n : ℕ) → getD (replicate n false) t false ≡ false
-    none-marked t zero = refl
-    none-marked zero (suc n) = refl
-    none-marked (suc t) (suc n) = none-marked t n
+starts-sound f v (suc t) q = absurd (false≢true (sym (replicate-at 15 t false) ∙ q))
 
 -- a marked state is reached by a path that binds v nowhere
 pub unbound-path : (f : Formula) (v s : ℕ) → isUnbound f v s ≡ true → Unbound f v s
@@ -183,18 +191,6 @@ rounds-length : (n v : ℕ) (es : List Edge) (m : List Bool) → length (rounds 
 unfolding rounds
 rounds-length zero v es m = refl
 rounds-length (suc n) v es m = rounds-length n v es (round v es m) ∙ round-length v es m
-
--- a mark stays
-set-keeps : (m : List Bool) (k t : ℕ) → getD m t false ≡ true → getD (set m k true) t false ≡ true
-set-keeps [] k t h = h
-set-keeps (x ∷ m) zero zero h = refl
-set-keeps (x ∷ m) zero (suc t) h = h
-set-keeps (x ∷ m) (suc k) zero h = h
-set-keeps (x ∷ m) (suc k) (suc t) h = set-keeps m k t h
-
-mark-keeps : (v : ℕ) (m : List Bool) (e : Edge) (t : ℕ) → getD m t false ≡ true → getD (mark v m e) t false ≡ true
-unfolding mark
-mark-keeps v m e t h = cond-holds (λ r. getD r t false ≡ true) (getD m (e .from) false && not (binds v (e .step .clauses))) (set m (e .step .target) true) m (λ c. set-keeps m (e .step .target) t h) (λ c. h)
 
 round-keeps : (v : ℕ) (es : List Edge) (m : List Bool) (t : ℕ) → getD m t false ≡ true → getD (round v es m) t false ≡ true
 unfolding round

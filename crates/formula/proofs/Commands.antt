@@ -5,7 +5,7 @@ use mathlib.Core.Bool.{Bool, true, false, not, _&&_}
 use mathlib.Core.List.{List, [], _∷_, _++_}
 use native.Mathlib.Omega.{arith}
 use native.Mathlib.Nat.{not-suc-le-zero}
-use borrow.Author.Tests.{ltb-true, ltb-false, lt-ltb, le-ltb, eqb-true, eq-eqb, not-true}
+use borrow.Author.Tests.{ltb-true, lt-ltb, le-ltb, eqb-true, eq-eqb, not-true}
 use lib.Dec.{ltb}
 use lib.ListN.{length, getD, drop}
 use Rattle.base.specs.Lists.{Bytes}
@@ -16,7 +16,8 @@ use Rattle.formula.specs.Encode.{Command, TIED, STATE, STEP, CLAUSE, GUA
 use Rattle.formula.specs.Correct.{size, depth, Value, Variable}
 use Rattle.formula.specs.Read.{Summary, Opcode, end-op, state-op, step-op, test-op, testv-op, bind-op, guard-op, tied-op, other-op, opcode, allowed, room, operatorOf, kindOf, ExprNext, expression, failed, readExpr, Next, command, end, bad, operands, guardOf, operandsOf, next}
 use Rattle.base.proofs.Tests.{and-left, and-right}
-use Rattle.formula.proofs.Basics.{cond-holds, byte-case}
+use Rattle.formula.proofs.Basics.{byte-case}
+use Rattle.formula.proofs.Order.{by-order, by-operands}
 use Rattle.formula.proofs.Exprs.{LeavesExist, Finds, expr-found, expr-read, value-below}
 
 -- a command is allowed behind what the summary tells, and within the stated counts and depth
@@ -81,7 +82,8 @@ operator-back (suc (suc (suc zero))) h = refl
 operator-back (suc (suc (suc (suc zero)))) h = refl
 operator-back (suc (suc (suc (suc (suc n))))) h = omega arith
 
-kind-back : (n : ℕ) → n < 4 → kindByte (kindOf n) ≡ n
+-- a kind's byte names it
+pub kind-back : (n : ℕ) → n < 4 → kindByte (kindOf n) ≡ n
 unfolding kindOf
 kind-back zero h = refl
 kind-back (suc zero) h = refl
@@ -89,7 +91,7 @@ kind-back (suc (suc zero)) h = refl
 kind-back (suc (suc (suc n))) h = omega arith
 
 operands-takes : (fields : ℕ) (s : Summary) (at b : ℕ) (ops : List ℕ) (width : ℕ) (exist : Bool) (c : Command) → (width ≤ length ops → exist ≡ true → Taken fields s (b ∷ ops) c (1 + width)) → Takes fields s (b ∷ ops) (operands at ops width exist c)
-operands-takes fields s at b ops width exist c f = cond-holds (Takes fields s (b ∷ ops)) (ltb (length ops) width) _ _ (λ q. tt) (λ q. cond-holds (Takes fields s (b ∷ ops)) exist _ _ (λ p. f (ltb-false (length ops) width q) p) (λ p. tt))
+operands-takes fields s at b ops width exist c f = by-operands at ops width exist c (Takes fields s (b ∷ ops)) tt tt f
 
 -- what the tests tell of a STEP, and of a TEST, TESTV or BIND
 step-fits : (s : Summary) (t : ℕ) → allowed s step-op ≡ true → room s step-op ≡ true → Fits s (STEP t)
@@ -157,7 +159,7 @@ op-takes fields s at b ops h other-op e a r = tt
 pub next-taken : (fields : ℕ) (s : Summary) (at : ℕ) (rest : List ℕ) → Bytes rest → Takes fields s rest (next fields s at rest)
 unfolding next
 next-taken fields s at [] h = tt
-next-taken fields s at (b ∷ ops) h = cond-holds (Takes fields s (b ∷ ops)) (allowed s (opcode b)) _ _ (λ a. cond-holds (Takes fields s (b ∷ ops)) (room s (opcode b)) _ _ (λ r. op-takes fields s at b ops (h .1) (opcode b) (byte-of b) a r) (λ r. tt)) (λ a. tt)
+next-taken fields s at (b ∷ ops) h = by-order fields s at b ops (Takes fields s (b ∷ ops)) tt tt (λ a r. op-takes fields s at b ops (h .1) (opcode b) (byte-of b) a r)
 
 -- a byte of an operator or a kind names it
 operator-of-byte : (o : Operator) → operatorOf (operatorByte o) ≡ o

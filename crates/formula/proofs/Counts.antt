@@ -9,7 +9,7 @@ use lib.ListN.{length}
 use Rattle.base.specs.Lists.{All}
 use Rattle.formula.specs.Formula.{Expr, Clause, Step, State, Formula}
 use Rattle.formula.specs.Encode.{Command, TIED, STATE, STEP, CLAUSE, GUARD, guardCommands, stepCommands, stateCommands, commands}
-use Rattle.formula.specs.Correct.{final, GuardFits, StepFits, StateFits}
+use Rattle.formula.specs.Correct.{isFinal, GuardFits, StepFits, StateFits}
 use Rattle.formula.specs.Read.{Summary, start, advance}
 use Rattle.formula.proofs.Gather.{Follows}
 
@@ -45,7 +45,7 @@ fit-steps (x ∷ xs) s cs h l k a c =
     let s₁ = advance s (STEP (x .target)) in
     rw (append-assoc (map CLAUSE (x .clauses) ++ guardCommands (x .guard)) (flatMap stepCommands xs) cs, append-assoc (map CLAUSE (x .clauses)) (guardCommands (x .guard)) rest) ((h, l, omega arith), fit-clauses (x .clauses) s₁ (guardCommands (x .guard) ++ rest) (omega arith) refl (let b = a .0 .clauses in omega arith) (λ t e q. fit-guard (x .guard) t rest (let b = e .steps in omega arith) q (a .0 .guard) (λ u i. fit-steps xs u cs (let b = i .states in let d = e .states in omega arith) (i .last ∙ (e .last ∙ l)) (let b = i .steps in let d = e .steps in omega arith) (a .1) (λ w z. c w (z ∙ (i .states ∙ e .states))))))
 
-fit-state : (x : State) (s : Summary) (cs : List Command) → StateFits x → ((t : Summary) → t .states ≡ suc (s .states) → Follows t cs) → (b : Bool) → final (x .kind) ≡ b → Follows (advance s (STATE (x .kind))) (flatMap stepCommands (x .steps) ++ cs)
+fit-state : (x : State) (s : Summary) (cs : List Command) → StateFits x → ((t : Summary) → t .states ≡ suc (s .states) → Follows t cs) → (b : Bool) → isFinal (x .kind) ≡ b → Follows (advance s (STATE (x .kind))) (flatMap stepCommands (x .steps) ++ cs)
 unfolding flatMap
 fit-state x s cs a c true e = rw (a .last e) (c (advance s (STATE (x .kind))) refl)
 fit-state x s cs a c false e = fit-steps (x .steps) (advance s (STATE (x .kind))) cs (omega arith) e (let b = a .steps in omega arith) (a .each) c
@@ -53,7 +53,7 @@ fit-state x s cs a c false e = fit-steps (x .steps) (advance s (STATE (x .kind))
 fit-states : (xs : List State) (s : Summary) → s .states + length xs ≤ 16 → All StateFits xs → Follows s (flatMap stateCommands xs)
 unfolding flatMap stateCommands
 fit-states [] s k a = tt
-fit-states (x ∷ xs) s k a = (omega arith, fit-state x s (flatMap stateCommands xs) (a .0) (λ t e. fit-states xs t (omega arith) (a .1)) (final (x .kind)) refl)
+fit-states (x ∷ xs) s k a = (omega arith, fit-state x s (flatMap stateCommands xs) (a .0) (λ t e. fit-states xs t (omega arith) (a .1)) (isFinal (x .kind)) refl)
 
 fit-tied : (vs : List ℕ) (s : Summary) (cs : List Command) → s .states ≡ 0 → s .tied + length vs ≤ 8 → ((t : Summary) → t .states ≡ 0 → Follows t cs) → Follows s (map TIED vs ++ cs)
 fit-tied [] s cs h k c = c s h

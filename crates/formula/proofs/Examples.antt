@@ -3,7 +3,6 @@ use Prim.Native.Nat.{ℕ}
 use mathlib.Core.Path.{_≡_, refl}
 use mathlib.Core.List.{List, [], _∷_, flatMap}
 use Rattle.base.specs.Value.{bytesOf, valueAt}
-use Rattle.event_log.specs.Log.{Kind, plain, rising}
 use Rattle.refusal.specs.declared.Report.{Report}
 use Rattle.refusal.specs.Refusals.{reportOf, line}
 use Rattle.formula.specs.Encode.{encode, encodeExpr, encodeClause, encodeCommand, commands, stateCommands, stepCommands, guardCommands}
@@ -15,12 +14,12 @@ abbrev pub answer : Reading → Report
 answer (accepted f) = line 0 0 0
 answer (refused r) = reportOf r
 
--- the bench log's fields: time rising, code plain
-unfoldable pub bench : List Kind
-bench = rising ∷ plain ∷ []
+-- the number of the bench log's fields: time and code
+abbrev bench : ℕ
+bench = 2
 
 pub read : List ℕ → Report
-unfolding readFormula readFrom afterEnd judge firstUnbound firstAbsent firstLeaf assemble gatherAll next readExpr exprWith over exprOpcode kindOf operatorOf opcode start isUnbound unbound rounds round mark edgesFrom stepsOf binds commands stateCommands stepCommands guardCommands encodeCommand encodeClause encodeExpr encode bytesOf valueAt flatMap bench
+unfolding readFormula readFrom afterEnd judge firstUnbound firstAbsent firstLeaf assemble gatherAll next readExpr exprWith over exprOpcode kindOf operatorOf opcode start isUnbound unbound rounds round mark edgesFrom stepsOf binds commands stateCommands stepCommands guardCommands encodeCommand encodeClause encodeExpr encode bytesOf valueAt flatMap
 read l = answer (readFormula bench l)
 
 -- M9 "G without its BIND: (2,8,15)"
@@ -92,6 +91,11 @@ loop-bound = refl
 loop-unbound : read (0x10 ∷ 0 ∷ 0x11 ∷ 1 ∷ 0x14 ∷ 0 ∷ 0 ∷ 0x11 ∷ 1 ∷ 0x10 ∷ 0 ∷ 0x11 ∷ 1 ∷ 0x11 ∷ 2 ∷ 0x13 ∷ 0 ∷ 0 ∷ 0 ∷ 0x10 ∷ 2 ∷ 0 ∷ []) ≡ line 2 8 15
 unfolding read
 loop-unbound = refl
+
+-- bound on one path and not on another, whichever stands first: unbound
+bound-on-one : read (0x10 ∷ 0 ∷ 0x11 ∷ 1 ∷ 0x11 ∷ 1 ∷ 0x14 ∷ 0 ∷ 0 ∷ 0x10 ∷ 0 ∷ 0x11 ∷ 2 ∷ 0x13 ∷ 0 ∷ 0 ∷ 0 ∷ 0x10 ∷ 2 ∷ 0 ∷ []) ≡ line 2 8 13
+unfolding read
+bound-on-one = refl
 
 -- at a VAR the step's own BIND counts
 own-bind : read (0x10 ∷ 0 ∷ 0x11 ∷ 1 ∷ 0x14 ∷ 0 ∷ 0 ∷ 0x15 ∷ 0x21 ∷ 0 ∷ 0x10 ∷ 2 ∷ 0 ∷ []) ≡ line 0 0 0

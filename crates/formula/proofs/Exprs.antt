@@ -10,12 +10,13 @@ use lib.ListN.{length, getD, drop, length-append}
 use lib.Seq.{drop-drop, drop-append-seam}
 use Rattle.base.specs.Lists.{Bytes}
 use Rattle.base.specs.Value.{bytesOf, valueAt}
+use Rattle.base.proofs.Tests.{cond-holds}
 use Rattle.base.proofs.Values.{bytes-of-value, value-of-bytes, byte-below}
 use Rattle.formula.specs.Formula.{Expr, CONST, VAR, COUNT, ADD, SUB, LESS, ATMOST, EQUAL, NOT, AND, OR, IF}
 use Rattle.formula.specs.Encode.{encodeExpr}
 use Rattle.formula.specs.Correct.{size, depth, Leaves, Value, Variable}
 use Rattle.formula.specs.Read.{ExprNext, expression, failed, ExprOpcode, const-op, var-op, count-op, unary, binary, ternary, foreign-op, exprOpcode, overOf, over, andThen, exprOf, exprWith, readExpr}
-use Rattle.formula.proofs.Basics.{cond-holds, byte-case, bytes-drop, behind}
+use Rattle.formula.proofs.Basics.{byte-case, bytes-drop, behind}
 
 -- what a value, a variable and a counter of an expression must be where it is read
 abbrev pub LeavesExist : Expr → Type 0

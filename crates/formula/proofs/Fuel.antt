@@ -8,11 +8,10 @@ use native.Mathlib.Nat.{not-suc-le-zero}
 use lib.Dec.{ltb}
 use lib.ListN.{length, getD, drop, length-drop}
 use Rattle.base.specs.Value.{valueAt}
-use Rattle.event_log.specs.Log.{Kind}
 use Rattle.formula.specs.Formula.{TEST, TESTV, BIND}
 use Rattle.formula.specs.Encode.{Command, TIED, STATE, STEP, CLAUSE}
-use Rattle.formula.specs.Read.{Reading, Summary, start, advance, Opcode, end-op, state-op, step-op, test-op, testv-op, bind-op, guard-op, tied-op, other-op, opcode, allowed, room, operatorOf, kindOf, ExprNext, expression, failed, readExpr, Next, command, end, bad, operands, guardOf, operandsOf, next, follow, readFrom, readFormula}
-use Rattle.formula.proofs.Basics.{cond-holds}
+use Rattle.formula.specs.Read.{Reading, Summary, start, advance, Opcode, end-op, state-op, step-op, test-op, testv-op, bind-op, guard-op, tied-op, other-op, opcode, operatorOf, kindOf, ExprNext, expression, failed, readExpr, Next, command, end, bad, operands, guardOf, operandsOf, next, follow, readFrom, readFormula}
+use Rattle.formula.proofs.Order.{by-order, by-operands}
 
 -- a command takes at least a byte
 abbrev pub Proceeds : Next → Type 0
@@ -21,7 +20,7 @@ Proceeds end = Unit {0}
 Proceeds (bad r) = Unit {0}
 
 operands-proceed : (at : ℕ) (ops : List ℕ) (width : ℕ) (exist : Bool) (c : Command) → Proceeds (operands at ops width exist c)
-operands-proceed at ops width exist c = cond-holds Proceeds (ltb (length ops) width) _ _ (λ q. tt) (λ q. cond-holds Proceeds exist _ _ (λ p. omega arith) (λ p. tt))
+operands-proceed at ops width exist c = by-operands at ops width exist c Proceeds tt tt (λ k e. omega arith)
 
 guard-proceeds : (x : ExprNext) → Proceeds (guardOf x)
 guard-proceeds (expression e u m) = omega arith
@@ -39,8 +38,7 @@ op-proceeds fields at ops tied-op = operands-proceed at ops 1 (ltb (getD ops 0 0
 op-proceeds fields at ops other-op = tt
 
 pub next-proceeds : (fields : ℕ) (s : Summary) (at b : ℕ) (ops : List ℕ) → Proceeds (next fields s at (b ∷ ops))
-unfolding next
-next-proceeds fields s at b ops = cond-holds Proceeds (allowed s (opcode b)) _ _ (λ a. cond-holds Proceeds (room s (opcode b)) _ _ (λ r. op-proceeds fields at ops (opcode b)) (λ r. tt)) (λ a. tt)
+next-proceeds fields s at b ops = by-order fields s at b ops Proceeds tt tt (λ a r. op-proceeds fields at ops (opcode b))
 
 -- two readers of the rest that agree on shorter files go on alike
 follow-same : (p q : Summary → List Command → ℕ → List ℕ → Reading) (s : Summary) (cs : List Command) (at b : ℕ) (ops : List ℕ) → ((t : Summary) (ds : List Command) (k : ℕ) (r : List ℕ) → length r ≤ length ops → p t ds k r ≡ q t ds k r) → (x : Next) → Proceeds x → follow p s cs at (b ∷ ops) x ≡ follow q s cs at (b ∷ ops) x
@@ -58,6 +56,6 @@ from-same (suc n) (suc m) fields s cs at [] h k = refl
 from-same (suc n) (suc m) fields s cs at (b ∷ ops) h k = follow-same (readFrom n fields) (readFrom m fields) s cs at b ops (λ t ds i r l. from-same n m fields t ds i r (omega arith) (omega arith)) (next fields s at (b ∷ ops)) (next-proceeds fields s at b ops)
 
 -- any fuel above the length reads the same
-pub fuel-enough : (fields : List Kind) (l : List ℕ) (n : ℕ) → length l < n → readFormula fields l ≡ readFrom n (length fields) start [] 0 l
+pub fuel-enough : (fields : ℕ) (l : List ℕ) (n : ℕ) → length l < n → readFormula fields l ≡ readFrom n fields start [] 0 l
 unfolding readFormula
-fuel-enough fields l n h = from-same (suc (length l)) n (length fields) start [] 0 l (omega arith) h
+fuel-enough fields l n h = from-same (suc (length l)) n fields start [] 0 l (omega arith) h

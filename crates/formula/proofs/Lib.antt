@@ -1,4 +1,5 @@
 -- Laws of reading a formula, and worked examples.
+pub mod Order
 pub mod Basics
 pub mod Exprs
 pub mod Commands
@@ -12,4 +13,5 @@ pub mod Places
 pub mod Steps
 pub mod Table
 pub mod Ties
+pub mod Refusals
 pub mod Examples

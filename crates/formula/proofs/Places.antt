@@ -8,11 +8,11 @@ use native.Mathlib.Omega.{arith}
 use native.Mathlib.Decide.{decLt}
 use lib.ListN.{length, getD, take, drop, getElem?, length-append}
 use lib.Seq.{drop-drop, split-at, drop-append-seam, drop-append-add}
+use Rattle.base.proofs.Lists.{flatMap-append}
 use Rattle.formula.specs.Formula.{Expr, Clause, Step, State, Formula}
 use Rattle.formula.specs.Encode.{Command, TIED, STATE, CLAUSE, guardCommands, stepCommands, stateCommands, commands, encodeExpr, encodeClause, encodeCommand, encode}
 use Rattle.formula.specs.Unbound.{stepsOf}
 use Rattle.formula.specs.Lookup.{stepAt, kindAt, commandsBefore, stepPlace, encodeGuard, encodeStep, guardPlace, placeIf, tableFrom, stepTable}
-use Rattle.formula.proofs.Basics.{flat-append}
 use Rattle.formula.proofs.Closure.{noState, no-steps}
 
 -- "STEP 11, STATE 10 or END 00": what may stand behind a step
@@ -39,7 +39,7 @@ flat-guard (some e) = append-nil (0x15 ∷ encodeExpr e)
 -- the bytes of a step are those of its commands
 pub step-bytes : (t : Step) → flatMap encodeCommand (stepCommands t) ≡ encodeStep t
 unfolding flatMap stepCommands encodeCommand encodeStep
-step-bytes t = ap (λ r. 0x11 ∷ t .target ∷ r) (flat-append encodeCommand (map CLAUSE (t .clauses)) (guardCommands (t .guard)) ∙ (rw (flat-clauses (t .clauses), flat-guard (t .guard))))
+step-bytes t = ap (λ r. 0x11 ∷ t .target ∷ r) (flatMap-append encodeCommand (map CLAUSE (t .clauses)) (guardCommands (t .guard)) ∙ (rw (flat-clauses (t .clauses), flat-guard (t .guard))))
 
 -- the commands behind a step: the later steps of its state, then the later states
 pub commandsBehind : Formula → ℕ → ℕ → List Command
@@ -68,8 +68,8 @@ commands-split f s k t e =
     let xs = f .states in
     let x = getD xs s noState in
     let a : xs ≡ take s xs ++ (x ∷ drop (suc s) xs) = split-at xs s noState (state-there f s k t e) in
-    let b : flatMap stateCommands xs ≡ flatMap stateCommands (take s xs) ++ (stateCommands x ++ flatMap stateCommands (drop (suc s) xs)) = ap (flatMap stateCommands) a ∙ flat-append stateCommands (take s xs) (x ∷ drop (suc s) xs) in
-    let c : flatMap stepCommands (stepsOf f s) ≡ flatMap stepCommands (take k (stepsOf f s)) ++ (stepCommands t ++ flatMap stepCommands (drop (suc k) (stepsOf f s))) = ap (flatMap stepCommands) (split-here (stepsOf f s) k t e) ∙ flat-append stepCommands (take k (stepsOf f s)) (t ∷ drop (suc k) (stepsOf f s)) in
+    let b : flatMap stateCommands xs ≡ flatMap stateCommands (take s xs) ++ (stateCommands x ++ flatMap stateCommands (drop (suc s) xs)) = ap (flatMap stateCommands) a ∙ flatMap-append stateCommands (take s xs) (x ∷ drop (suc s) xs) in
+    let c : flatMap stepCommands (stepsOf f s) ≡ flatMap stepCommands (take k (stepsOf f s)) ++ (stepCommands t ++ flatMap stepCommands (drop (suc k) (stepsOf f s))) = ap (flatMap stepCommands) (split-here (stepsOf f s) k t e) ∙ flatMap-append stepCommands (take k (stepsOf f s)) (t ∷ drop (suc k) (stepsOf f s)) in
     let d : stateCommands x ≡ STATE (x .kind) ∷ (flatMap stepCommands (take k (stepsOf f s)) ++ (stepCommands t ++ flatMap stepCommands (drop (suc k) (stepsOf f s)))) = ap (λ r. STATE (x .kind) ∷ r) c in
     ap (λ r. map TIED (f .tied) ++ r) (b ∙ ap (λ r. flatMap stateCommands (take s xs) ++ (r ++ flatMap stateCommands (drop (suc s) xs))) d) ∙ glue (map TIED (f .tied)) (flatMap stateCommands (take s xs)) (flatMap stepCommands (take k (stepsOf f s))) (stepCommands t) (flatMap stepCommands (drop (suc k) (stepsOf f s))) (flatMap stateCommands (drop (suc s) xs)) (STATE (x .kind))
 
@@ -94,7 +94,7 @@ pub record StandsAt (f : Formula) (s k : ℕ) (t : Step) : Type 0 where
 
 encode-split : (f : Formula) (s k : ℕ) (t : Step) → stepAt f s k ≡ some t → encode f ≡ flatMap encodeCommand (commandsBefore f s k) ++ (encodeStep t ++ bytesBehind f s k)
 unfolding encode bytesBehind
-encode-split f s k t e = rw (commands-split f s k t e, flat-append encodeCommand (commandsBefore f s k) (stepCommands t ++ commandsBehind f s k), flat-append encodeCommand (stepCommands t) (commandsBehind f s k), step-bytes t, append-assoc (flatMap encodeCommand (commandsBefore f s k)) (encodeStep t ++ flatMap encodeCommand (commandsBehind f s k)) (0x00 ∷ []), append-assoc (encodeStep t) (flatMap encodeCommand (commandsBehind f s k)) (0x00 ∷ []))
+encode-split f s k t e = rw (commands-split f s k t e, flatMap-append encodeCommand (commandsBefore f s k) (stepCommands t ++ commandsBehind f s k), flatMap-append encodeCommand (stepCommands t) (commandsBehind f s k), step-bytes t, append-assoc (flatMap encodeCommand (commandsBefore f s k)) (encodeStep t ++ flatMap encodeCommand (commandsBehind f s k)) (0x00 ∷ []), append-assoc (encodeStep t) (flatMap encodeCommand (commandsBehind f s k)) (0x00 ∷ []))
 
 -- where a step begins, and where its guard does
 pub step-stands : (f : Formula) (s k : ℕ) (t : Step) → stepAt f s k ≡ some t → StandsAt f s k t
@@ -118,7 +118,7 @@ place-positive f s k =
     let c = flatMap stepCommands (take k (stepsOf f s)) in
     let p = length-append (flatMap encodeCommand a) (flatMap encodeCommand (b ++ (STATE (kindAt f s) ∷ c))) in
     let q = length-append (flatMap encodeCommand b) (flatMap encodeCommand (STATE (kindAt f s) ∷ c)) in
-    rw (flat-append encodeCommand a (b ++ (STATE (kindAt f s) ∷ c)), p, flat-append encodeCommand b (STATE (kindAt f s) ∷ c), q) (omega arith)
+    rw (flatMap-append encodeCommand a (b ++ (STATE (kindAt f s) ∷ c)), p, flatMap-append encodeCommand b (STATE (kindAt f s) ∷ c), q) (omega arith)
 
 -- an entry of a part of the table
 pub table-entry : (f : Formula) (i n j : ℕ) → j < n → getD (tableFrom f i n) j 0 ≡ placeIf (stepAt f ((i + j) / 8) ((i + j) % 8)) (stepPlace f ((i + j) / 8) ((i + j) % 8))

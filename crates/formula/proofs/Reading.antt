@@ -8,18 +8,20 @@ use native.Mathlib.Omega.{arith}
 use native.Mathlib.Nat.{not-suc-le-zero}
 use lib.ListN.{length, drop, length-append}
 use lib.Seq.{drop-append-seam, append-snoc}
+use Rattle.base.proofs.Tests.{cond-holds}
+use Rattle.base.proofs.Lists.{All-append, flatMap-append}
 use Rattle.base.specs.Lists.{All, Bytes}
-use Rattle.event_log.specs.Log.{Kind}
 use Rattle.refusal.specs.declared.Refusal.{Refusal}
 use Rattle.formula.specs.Formula.{TEST, TESTV, BIND, Formula}
 use Rattle.formula.specs.Encode.{Command, TIED, STATE, STEP, CLAUSE, GUARD, commands, encodeClause, encodeCommand, encode}
 use Rattle.formula.specs.Unbound.{isUnbound}
 use Rattle.formula.specs.Correct.{Exists, deadStart, Correct}
 use Rattle.formula.specs.Read.{Reading, accepted, refused, Summary, start, advance, Next, command, end, bad, next, gatherAll, assemble, firstAbsent, firstUnbound, refusedAt, judge, afterEnd, follow, readFrom, readFormula}
-use Rattle.formula.proofs.Basics.{cond-holds, bytes-drop, behind, all-both, all-append, flat-append}
+use Rattle.formula.proofs.Basics.{bytes-drop, behind, all-both}
 use Rattle.formula.proofs.Commands.{Fits, Operands, Taken, Ended, Takes, next-taken, next-read, next-end}
 use Rattle.formula.proofs.Gather.{Follows, assemble-commands, commands-assemble}
 use Rattle.formula.proofs.Counts.{Counts, counts-follow, follow-counts}
+use Rattle.formula.proofs.Order.{then-accepted}
 use Rattle.formula.proofs.AfterEnd.{Declared, exists-both, exists-operands, exists-declared, none-absent, declared-none, none-unbound, unbound-none}
 
 -- the summary after several commands
@@ -52,7 +54,7 @@ states-passed f = states-gathered start (commands f) ∙ (native.Mathlib.Nat.zer
 
 pub encode-snoc : (cs : List Command) (c : Command) → flatMap encodeCommand (cs ++ (c ∷ [])) ≡ flatMap encodeCommand cs ++ encodeCommand c
 unfolding flatMap
-encode-snoc cs c = flat-append encodeCommand cs (c ∷ []) ∙ ap (λ r. flatMap encodeCommand cs ++ r) (append-nil (encodeCommand c))
+encode-snoc cs c = flatMap-append encodeCommand cs (c ∷ []) ∙ ap (λ r. flatMap encodeCommand cs ++ r) (append-nil (encodeCommand c))
 
 -- the commands cs of the file l are read, right ones, up to offset at, where rest stands
 pub record Reached (fields : ℕ) (l : List ℕ) (s : Summary) (cs : List Command) (at : ℕ) (rest : List ℕ) : Type 0 where
@@ -74,7 +76,7 @@ reached-next fields l s cs at rest c u r t =
     let p = r .place in
     let q = t .used in
     let z = length-append (flatMap encodeCommand cs) (encodeCommand c) in
-    record { follows = follows-snoc start cs c (r .follows) (subst (λ x. Fits x c) (r .summary) (t .fits)); summary = ap (λ x. advance x c) (r .summary) ∙ sym (advances-snoc start cs c); operands = all-append (Operands fields) cs (c ∷ []) (r .operands) (t .operands, tt); bytes = rw (encode-snoc cs c, d, append-assoc (flatMap encodeCommand cs) (encodeCommand c) (t .behind)) e; place = rw (encode-snoc cs c) (omega arith) }
+    record { follows = follows-snoc start cs c (r .follows) (subst (λ x. Fits x c) (r .summary) (t .fits)); summary = ap (λ x. advance x c) (r .summary) ∙ sym (advances-snoc start cs c); operands = All-append (Operands fields) cs (c ∷ []) (r .operands) (t .operands, tt); bytes = rw (encode-snoc cs c, d, append-assoc (flatMap encodeCommand cs) (encodeCommand c) (t .behind)) e; place = rw (encode-snoc cs c) (omega arith) }
 
 -- at END: the file up to there is the encoding of the commands' formula, which keeps the counts and has a state
 pub record Complete (fields : ℕ) (l : List ℕ) (f : Formula) (after : List ℕ) : Type 0 where
@@ -92,38 +94,38 @@ reached-end fields l s cs at rest r t =
     let p = t .states in
     record { counts = follow-counts (assemble cs) (subst (Follows start) (sym e) (r .follows)); nonempty = omega arith; operands = subst (All (Operands fields)) (sym e) (r .operands); bytes = rw (e, d, append-snoc (flatMap encodeCommand cs) 0x00 (t .behind), ← t .bytes) (r .bytes) }
 
--- what a reading of l with these fields may answer
-abbrev Right : List Kind → List ℕ → Reading → Type 0
+-- what a reading of l with so many fields may answer
+abbrev Right : ℕ → List ℕ → Reading → Type 0
 Right fields l (accepted f) = (l ≡ encode f) × Correct fields f
 Right fields l (refused r) = Unit {0}
 
-refused-right : (fields : List Kind) (l : List ℕ) (o : Option ℕ) (r : ℕ → Refusal) (x : Reading) → (o ≡ none → Right fields l x) → Right fields l (refusedAt o r x)
+refused-right : (fields : ℕ) (l : List ℕ) (o : Option ℕ) (r : ℕ → Refusal) (x : Reading) → (o ≡ none → Right fields l x) → Right fields l (refusedAt o r x)
 refused-right fields l none r x h = h refl
 refused-right fields l (some p) r x h = tt
 
-judge-right : (fields : List Kind) (l : List ℕ) (f : Formula) → Complete (length fields) l f [] → Right fields l (judge f)
+judge-right : (fields : ℕ) (l : List ℕ) (f : Formula) → Complete fields l f [] → Right fields l (judge f)
 unfolding judge
-judge-right fields l f c = refused-right fields l (firstAbsent (length (f .states)) 0 (commands f)) _ _ (λ a. cond-holds (Right fields l) (deadStart (f .states)) _ _ (λ d. tt) (λ d. refused-right fields l (firstUnbound (isUnbound f) 0 [] 0 (commands f)) _ _ (λ b. (c .bytes ∙ append-nil (encode f), record { tied = c .counts .tied; nonempty = c .nonempty; states = c .counts .states; each = c .counts .each; values = all-both (Operands (length fields)) (Declared (length (f .states))) (Exists (length fields) (length (f .states))) (exists-both (length fields) (length (f .states))) (commands f) (c .operands) (none-absent (length (f .states)) 0 (commands f) a); start = d; bound = none-unbound f (c .counts .states) b }))))
+judge-right fields l f c = refused-right fields l (firstAbsent (length (f .states)) 0 (commands f)) _ _ (λ a. cond-holds (Right fields l) (deadStart (f .states)) _ _ (λ d. tt) (λ d. refused-right fields l (firstUnbound (isUnbound f) 0 [] 0 (commands f)) _ _ (λ b. (c .bytes ∙ append-nil (encode f), record { tied = c .counts .tied; nonempty = c .nonempty; states = c .counts .states; each = c .counts .each; values = all-both (Operands fields) (Declared (length (f .states))) (Exists fields (length (f .states))) (exists-both fields (length (f .states))) (commands f) (c .operands) (none-absent (length (f .states)) 0 (commands f) a); start = d; bound = none-unbound f (c .counts .states) b }))))
 
-end-right : (fields : List Kind) (l : List ℕ) (f : Formula) (at : ℕ) (after : List ℕ) → Complete (length fields) l f after → Right fields l (afterEnd f at after)
+end-right : (fields : ℕ) (l : List ℕ) (f : Formula) (at : ℕ) (after : List ℕ) → Complete fields l f after → Right fields l (afterEnd f at after)
 unfolding afterEnd
 end-right fields l f at [] c = judge-right fields l f c
 end-right fields l f at (b ∷ bs) c = tt
 
-follow-right : (fields : List Kind) (l : List ℕ) (go-on : Summary → List Command → ℕ → List ℕ → Reading) (s : Summary) (cs : List Command) (at : ℕ) (rest : List ℕ) → ((t : Summary) (ds : List Command) (k : ℕ) (u : ℕ) → Reached (length fields) l t ds k (drop u rest) → Right fields l (go-on t ds k (drop u rest))) → Reached (length fields) l s cs at rest → (x : Next) → Takes (length fields) s rest x → Right fields l (follow go-on s cs at rest x)
-follow-right fields l go-on s cs at rest h r (command c u) t = h (advance s c) (cs ++ (c ∷ [])) (at + u) u (reached-next (length fields) l s cs at rest c u r t)
-follow-right fields l go-on s cs at rest h r end t = end-right fields l (assemble cs) (at + 1) (drop 1 rest) (reached-end (length fields) l s cs at rest r t)
+follow-right : (fields : ℕ) (l : List ℕ) (go-on : Summary → List Command → ℕ → List ℕ → Reading) (s : Summary) (cs : List Command) (at : ℕ) (rest : List ℕ) → ((t : Summary) (ds : List Command) (k : ℕ) (u : ℕ) → Reached fields l t ds k (drop u rest) → Right fields l (go-on t ds k (drop u rest))) → Reached fields l s cs at rest → (x : Next) → Takes fields s rest x → Right fields l (follow go-on s cs at rest x)
+follow-right fields l go-on s cs at rest h r (command c u) t = h (advance s c) (cs ++ (c ∷ [])) (at + u) u (reached-next fields l s cs at rest c u r t)
+follow-right fields l go-on s cs at rest h r end t = end-right fields l (assemble cs) (at + 1) (drop 1 rest) (reached-end fields l s cs at rest r t)
 follow-right fields l go-on s cs at rest h r (bad b) t = tt
 
-from-right : (n : ℕ) (fields : List Kind) (l : List ℕ) (s : Summary) (cs : List Command) (at : ℕ) (rest : List ℕ) → Bytes rest → Reached (length fields) l s cs at rest → Right fields l (readFrom n (length fields) s cs at rest)
+from-right : (n : ℕ) (fields : ℕ) (l : List ℕ) (s : Summary) (cs : List Command) (at : ℕ) (rest : List ℕ) → Bytes rest → Reached fields l s cs at rest → Right fields l (readFrom n fields s cs at rest)
 unfolding readFrom
 from-right zero fields l s cs at rest b r = tt
-from-right (suc n) fields l s cs at rest b r = follow-right fields l (readFrom n (length fields)) s cs at rest (λ t ds k u q. from-right n fields l t ds k (drop u rest) (bytes-drop u rest b) q) r (next (length fields) s at rest) (next-taken (length fields) s at rest b)
+from-right (suc n) fields l s cs at rest b r = follow-right fields l (readFrom n fields) s cs at rest (λ t ds k u q. from-right n fields l t ds k (drop u rest) (bytes-drop u rest b) q) r (next fields s at rest) (next-taken fields s at rest b)
 
 -- an accepted file is the encoding of the formula it is read as, which is correct
-pub accepted-correct : (fields : List Kind) (l : List ℕ) (f : Formula) → Bytes l → readFormula fields l ≡ accepted f → (l ≡ encode f) × Correct fields f
+pub accepted-correct : (fields : ℕ) (l : List ℕ) (f : Formula) → Bytes l → readFormula fields l ≡ accepted f → (l ≡ encode f) × Correct fields f
 unfolding readFormula
-accepted-correct fields l f b e = subst (Right fields l) e (from-right (suc (length l)) fields l start [] 0 l b (reached-start (length fields) l))
+accepted-correct fields l f b e = subst (Right fields l) e (from-right (suc (length l)) fields l start [] 0 l b (reached-start fields l))
 
 encode-long : (c : Command) → 1 ≤ length (encodeCommand c)
 unfolding encodeCommand encodeClause
@@ -154,24 +156,27 @@ read-commands (suc n) fields (c ∷ cs) s done at h o p k =
     let i = read-commands n fields cs (advance s c) (done ++ (c ∷ [])) (at + length (encodeCommand c)) (h .1) (o .1) p (omega arith) in
     rw (append-assoc (encodeCommand c) (flatMap encodeCommand cs) (0x00 ∷ []), next-read fields s at c rest (h .0) (o .0), drop-append-seam (encodeCommand c) rest) (i ∙ ap (λ x. judge (assemble x)) (append-snoc done c cs))
 
-judge-accepts : (fields : List Kind) (f : Formula) → Correct fields f → judge f ≡ accepted f
-unfolding judge
-judge-accepts fields f c = rw (declared-none (length (f .states)) 0 (commands f) (all-both (Exists (length fields) (length (f .states))) (Exists (length fields) (length (f .states))) (Declared (length (f .states))) (λ x y z. exists-declared (length fields) (length (f .states)) x y) (commands f) (c .values) (c .values)), c .start, unbound-none f (c .bound))
+judge-accepts : (fields : ℕ) (f : Formula) → Correct fields f → judge f ≡ accepted f
+unfolding afterEnd
+judge-accepts fields f c =
+    let P = Exists fields (length (f .states)) in
+    let declared = all-both P P (Declared (length (f .states))) (λ x y z. exists-declared fields (length (f .states)) x y) (commands f) (c .values) (c .values) in
+    then-accepted f 0 (declared-none (length (f .states)) 0 (commands f) declared) (c .start) (unbound-none f (c .bound))
 
 -- the encoding of a correct formula is accepted and read as that formula
-pub correct-accepted : (fields : List Kind) (f : Formula) → Correct fields f → readFormula fields (encode f) ≡ accepted f
+pub correct-accepted : (fields : ℕ) (f : Formula) → Correct fields f → readFormula fields (encode f) ≡ accepted f
 unfolding readFormula encode
 correct-accepted fields f c =
     let h : Follows start (commands f) = counts-follow f (record { tied = c .tied; states = c .states; each = c .each }) in
-    let o : All (Operands (length fields)) (commands f) = all-both (Exists (length fields) (length (f .states))) (Exists (length fields) (length (f .states))) (Operands (length fields)) (λ x y z. exists-operands (length fields) (length (f .states)) x y) (commands f) (c .values) (c .values) in
+    let o : All (Operands fields) (commands f) = all-both (Exists fields (length (f .states))) (Exists fields (length (f .states))) (Operands fields) (λ x y z. exists-operands fields (length (f .states)) x y) (commands f) (c .values) (c .values) in
     let n = states-passed f in
     let p = c .nonempty in
     let k = commands-short (commands f) in
     let l = length-append (flatMap encodeCommand (commands f)) (0x00 ∷ []) in
-    read-commands (suc (length (encode f))) (length fields) (commands f) start [] 0 h o (omega arith) (omega arith) ∙ (ap judge (assemble-commands f) ∙ judge-accepts fields f c)
+    read-commands (suc (length (encode f))) fields (commands f) start [] 0 h o (omega arith) (omega arith) ∙ (ap judge (assemble-commands f) ∙ judge-accepts fields f c)
 
 -- the encoding loses nothing
-pub encode-injective : (fields : List Kind) (f g : Formula) → Correct fields f → Correct fields g → encode f ≡ encode g → f ≡ g
+pub encode-injective : (fields : ℕ) (f g : Formula) → Correct fields f → Correct fields g → encode f ≡ encode g → f ≡ g
 encode-injective fields f g c d e = ap content (sym (correct-accepted fields f c) ∙ (ap (readFormula fields) e ∙ correct-accepted fields g d))
   where
     content : Reading → Formula
@@ -179,5 +184,5 @@ encode-injective fields f g c d e = ap content (sym (correct-accepted fields f c
     content (refused r) = f
 
 -- both at once: accepted as f exactly when the bytes are the encoding of f and f is correct
-pub accepted-exactly : (fields : List Kind) (l : List ℕ) (f : Formula) → Bytes l → (readFormula fields l ≡ accepted f) ↔ ((l ≡ encode f) × Correct fields f)
+pub accepted-exactly : (fields : ℕ) (l : List ℕ) (f : Formula) → Bytes l → (readFormula fields l ≡ accepted f) ↔ ((l ≡ encode f) × Correct fields f)
 accepted-exactly fields l f b = (accepted-correct fields l f b, λ h. ap (readFormula fields) (h .0) ∙ correct-accepted fields f (h .1))

@@ -5,14 +5,13 @@ use mathlib.Core.Bool.{Bool, true, false}
 use mathlib.Core.List.{List, [], _∷_, _++_, map}
 use mathlib.Core.Option.{some, Option·none-ne-some, Option·some-injective}
 use native.Mathlib.Omega.{arith}
-use native.Mathlib.Nat.{not-suc-le-zero, le-of-suc-le-suc}
 use lib.ListN.{length, getD, getElem?}
+use Rattle.base.proofs.Lists.{All-at}
 use Rattle.base.specs.Lists.{All}
-use Rattle.event_log.specs.Log.{Kind}
 use Rattle.formula.specs.Formula.{Clause, Step, State, Formula}
 use Rattle.formula.specs.Encode.{CLAUSE, guardCommands, stepCommands}
 use Rattle.formula.specs.Unbound.{stepsOf}
-use Rattle.formula.specs.Correct.{final, Exists, StepFits, StateFits, Correct}
+use Rattle.formula.specs.Correct.{isFinal, Exists, StepFits, StateFits, Correct}
 use Rattle.formula.specs.Lookup.{stepAt, kindAt, commandsBefore}
 use Rattle.formula.proofs.Basics.{all-left, all-right}
 use Rattle.formula.proofs.Closure.{noState}
@@ -22,18 +21,14 @@ use Rattle.formula.proofs.Places.{commandsBehind, commands-split, state
 pub record RightStep (fields : ℕ) (f : Formula) (s k : ℕ) (t : Step) : Type 0 where
   pub state : s < length (f .states)
   pub number : k < 8
-  pub kind : final (kindAt f s) ≡ false
+  pub kind : isFinal (kindAt f s) ≡ false
   pub fits : StepFits t
   pub target : t .target < length (f .states)
   pub clauses : All (λ (c : Clause). Exists fields (length (f .states)) (CLAUSE c)) (t .clauses)
   pub guard : All (Exists fields (length (f .states))) (guardCommands (t .guard))
 
-all-at : {A : Type 0} (P : A → Type 0) (xs : List A) (k : ℕ) (d : A) → k < length xs → All P xs → P (getD xs k d)
-all-at P [] k d h a = absurd (not-suc-le-zero h)
-all-at P (x ∷ xs) zero d h a = a .0
-all-at P (x ∷ xs) (suc k) d h a = all-at P xs k d (le-of-suc-le-suc h) (a .1)
-
-all-some : {A : Type 0} (P : A → Type 0) (xs : List A) (k : ℕ) (x : A) → getElem? xs k ≡ some x → All P xs → P x × (k < length xs)
+-- an element that a list has keeps what all its elements have
+pub all-some : {A : Type 0} (P : A → Type 0) (xs : List A) (k : ℕ) (x : A) → getElem? xs k ≡ some x → All P xs → P x × (k < length xs)
 all-some P [] k x e a = absurd (Option·none-ne-some x e)
 all-some P (y ∷ ys) zero x e a = (subst P (Option·some-injective y x e) (a .0), omega arith)
 all-some P (y ∷ ys) (suc k) x e a =
@@ -46,21 +41,21 @@ all-map P g [] a = tt
 all-map P g (x ∷ xs) a = (a .0, all-map P g xs (a .1))
 
 -- a state with a step neither accepts nor rejects
-has-step : (x : State) (k : ℕ) (t : Step) → StateFits x → getElem? (x .steps) k ≡ some t → (b : Bool) → final (x .kind) ≡ b → b ≡ false
+has-step : (x : State) (k : ℕ) (t : Step) → StateFits x → getElem? (x .steps) k ≡ some t → (b : Bool) → isFinal (x .kind) ≡ b → b ≡ false
 has-step x k t h e true q = absurd (Option·none-ne-some t (subst (λ (xs : List Step). getElem? xs k ≡ some t) (h .last q) e))
 has-step x k t h e false q = refl
 
 -- a step of a correct formula is right
-pub right-step : (fields : List Kind) (f : Formula) (s k : ℕ) (t : Step) → Correct fields f → stepAt f s k ≡ some t → RightStep (length fields) f s k t
+pub right-step : (fields : ℕ) (f : Formula) (s k : ℕ) (t : Step) → Correct fields f → stepAt f s k ≡ some t → RightStep fields f s k t
 unfolding stepAt stepsOf kindAt stepCommands
 right-step fields f s k t c e =
     let n = length (f .states) in
     let i : s < n = state-there f s k t e in
     let x = getD (f .states) s noState in
-    let h : StateFits x = all-at StateFits (f .states) s noState i (c .each) in
+    let h : StateFits x = All-at StateFits (f .states) s noState (c .each) i in
     let p = all-some StepFits (x .steps) k t e (h .each) in
     let q = p .1 in
     let m = h .steps in
-    let a : All (Exists (length fields) n) (commandsBefore f s k ++ (stepCommands t ++ commandsBehind f s k)) = subst (All (Exists (length fields) n)) (commands-split f s k t e) (c .values) in
-    let b = all-left (Exists (length fields) n) (stepCommands t) (commandsBehind f s k) (all-right (Exists (length fields) n) (commandsBefore f s k) (stepCommands t ++ commandsBehind f s k) a) in
-    record { state = i; number = omega arith; kind = has-step x k t h e (final (x .kind)) refl; fits = p .0; target = b .0; clauses = all-map (Exists (length fields) n) CLAUSE (t .clauses) (all-left (Exists (length fields) n) (map CLAUSE (t .clauses)) (guardCommands (t .guard)) (b .1)); guard = all-right (Exists (length fields) n) (map CLAUSE (t .clauses)) (guardCommands (t .guard)) (b .1) }
+    let a : All (Exists fields n) (commandsBefore f s k ++ (stepCommands t ++ commandsBehind f s k)) = subst (All (Exists fields n)) (commands-split f s k t e) (c .values) in
+    let b = all-left (Exists fields n) (stepCommands t) (commandsBehind f s k) (all-right (Exists fields n) (commandsBefore f s k) (stepCommands t ++ commandsBehind f s k) a) in
+    record { state = i; number = omega arith; kind = has-step x k t h e (isFinal (x .kind)) refl; fits = p .0; target = b .0; clauses = all-map (Exists fields n) CLAUSE (t .clauses) (all-left (Exists fields n) (map CLAUSE (t .clauses)) (guardCommands (t .guard)) (b .1)); guard = all-right (Exists fields n) (map CLAUSE (t .clauses)) (guardCommands (t .guard)) (b .1) }

@@ -7,6 +7,7 @@ use native.Mathlib.Omega.{arith}
 use native.Mathlib.Decide.{decLt, ℕ-discrete}
 use lib.ListN.{length, getD, set, take, drop, replicate, getElem?, length-append, length-set, length-replicate, length-drop}
 use lib.Seq.{getD-set-same, getD-set-other, ext-getD, take-length}
+use Rattle.base.proofs.Lists.{flatMap-append}
 use Rattle.base.specs.Lists.{All}
 use Rattle.formula.specs.Formula.{Expr, Clause, Step, State, Formula}
 use Rattle.formula.specs.Encode.{Command, TIED, STATE, STEP, CLAUSE, GUARD, guardCommands, stepCommands, stateCommands, commands, encodeCommand}
@@ -14,7 +15,6 @@ use Rattle.formula.specs.Unbound.{stepsOf}
 use Rattle.formula.specs.Correct.{StateFits}
 use Rattle.formula.specs.Lookup.{stepAt, kindAt, commandsBefore, stepPlace, placeIf, stepTable}
 use Rattle.formula.specs.Read.{Summary, start, advance}
-use Rattle.formula.proofs.Basics.{flat-append}
 use Rattle.formula.proofs.Closure.{noState, no-steps}
 use Rattle.formula.proofs.Counts.{Counts, Same}
 use Rattle.formula.proofs.Reading.{advances}
@@ -122,9 +122,9 @@ place-next f s k t e =
     let b = flatMap stateCommands (take s (f .states)) in
     let p = flatMap stepCommands (take k (stepsOf f s)) in
     let x = STATE (kindAt f s) in
-    let c : flatMap stepCommands (take (suc k) (stepsOf f s)) ≡ p ++ stepCommands t = ap (flatMap stepCommands) (take-next (stepsOf f s) k t e) ∙ (flat-append stepCommands (take k (stepsOf f s)) (t ∷ []) ∙ ap (λ r. p ++ r) (one-step t)) in
+    let c : flatMap stepCommands (take (suc k) (stepsOf f s)) ≡ p ++ stepCommands t = ap (flatMap stepCommands) (take-next (stepsOf f s) k t e) ∙ (flatMap-append stepCommands (take k (stepsOf f s)) (t ∷ []) ∙ ap (λ r. p ++ r) (one-step t)) in
     let d : a ++ (b ++ (x ∷ (p ++ stepCommands t))) ≡ (a ++ (b ++ (x ∷ p))) ++ stepCommands t = rw (append-assoc a (b ++ (x ∷ p)) (stepCommands t), append-assoc b (x ∷ p) (stepCommands t)) in
-    rw (c, d, flat-append encodeCommand (a ++ (b ++ (x ∷ p))) (stepCommands t)) (length-append (flatMap encodeCommand (a ++ (b ++ (x ∷ p)))) (flatMap encodeCommand (stepCommands t)))
+    rw (c, d, flatMap-append encodeCommand (a ++ (b ++ (x ∷ p))) (stepCommands t)) (length-append (flatMap encodeCommand (a ++ (b ++ (x ∷ p)))) (flatMap encodeCommand (stepCommands t)))
   where
     one-step : (y : Step) → flatMap stepCommands (y ∷ []) ≡ stepCommands y
     one-step y = unfold flatMap in append-nil (stepCommands y)
@@ -188,7 +188,7 @@ first-place f n =
     let a = map TIED (f .tied) in
     let b = flatMap stateCommands (take n (f .states)) in
     let x = STATE (kindAt f n) in
-    rw (← append-assoc a b (x ∷ []), flat-append encodeCommand (a ++ b) (x ∷ [])) (length-append (flatMap encodeCommand (a ++ b)) (encodeCommand x))
+    rw (← append-assoc a b (x ∷ []), flatMap-append encodeCommand (a ++ b) (x ∷ [])) (length-append (flatMap encodeCommand (a ++ b)) (encodeCommand x))
 
 one-state : (x : State) → flatMap stateCommands (x ∷ []) ≡ STATE (x .kind) ∷ flatMap stepCommands (x .steps)
 unfolding flatMap stateCommands
@@ -204,7 +204,7 @@ steps-there f n x e = ap (λ (y : State). y .steps) (elem-default (f .states) n 
 
 last-place : (f : Formula) (n : ℕ) (x : State) → getElem? (f .states) n ≡ some x → stepPlace f n (length (x .steps)) ≡ statePlace f (suc n)
 unfolding stepPlace commandsBefore statePlace
-last-place f n x e = rw (kind-there f n x e, steps-there f n x e, take-length (x .steps), take-next (f .states) n x e, flat-append stateCommands (take n (f .states)) (x ∷ []), one-state x)
+last-place f n x e = rw (kind-there f n x e, steps-there f n x e, take-length (x .steps), take-next (f .states) n x e, flatMap-append stateCommands (take n (f .states)) (x ∷ []), one-state x)
 
 -- behind the last state the table is whole
 upto-whole : (f : Formula) (n : ℕ) (tab : List ℕ) → Upto f (n * 8) tab → length (f .states) ≤ n → n ≤ 16 → tab ≡ stepTable f

@@ -1,13 +1,13 @@
 -- The mask of tied variables: made of flags that say which are tied; below 256, and bit v is set exactly when variable v is tied.
 use Prim.Native.Nat.{ℕ, zero, suc, _+_, _*_, _/_, _%_, _^_, _<_}
-use mathlib.Core.Path.{_≡_, refl, ap, sym, _∙_}
+use mathlib.Core.Path.{_≡_, ap, sym, _∙_}
 use mathlib.Core.Bool.{Bool, true, false, cond}
 use mathlib.Core.List.{List, [], _∷_}
 use native.Mathlib.Omega.{arith}
 use native.Mathlib.Nat.{pow-suc, mul-assoc, mul-add, mul-one, mul-zero, one-mul, zero-add}
 use lib.ListN.{length, getD}
 use Rattle.base.specs.Mask.{mask}
-use Rattle.base.proofs.Masks.{mask-below, mask-bit as flag-bit}
+use Rattle.base.proofs.Masks.{mask-bit as flag-bit}
 use Rattle.formula.specs.Formula.{Formula}
 use Rattle.formula.specs.Lookup.{isTied, maskFrom, tiedMask}
 
@@ -30,11 +30,6 @@ flags : List ℕ → ℕ → ℕ → List Bool
 flags ws v zero = []
 flags ws v (suc n) = isTied v ws ∷ flags ws (suc v) n
 
-length-flags : (ws : List ℕ) (v n : ℕ) → length (flags ws v n) ≡ n
-unfolding flags
-length-flags ws v zero = refl
-length-flags ws v (suc n) = ap suc (length-flags ws (suc v) n)
-
 flags-at : (ws : List ℕ) (v n k : ℕ) → k < n → getD (flags ws v n) k false ≡ isTied (v + k) ws
 unfolding flags
 flags-at ws v zero k h = absurd (omega arith)
@@ -44,10 +39,6 @@ flags-at ws v (suc n) (suc k) h = let e : suc v + k ≡ v + suc k = omega arith 
 whole : (f : Formula) → tiedMask f ≡ mask (flags (f .tied) 0 8)
 unfolding tiedMask flags
 whole f = mask-from (f .tied) 0 (flags (f .tied) 0 8) (flags-at (f .tied) 0 8) ∙ one-mul (mask (flags (f .tied) 0 8))
-
--- the mask is below 256
-pub mask-small : (f : Formula) → tiedMask f < 256
-mask-small f = rw (whole f) (mask-below (flags (f .tied) 0 8) 8 (omega (arith, length-flags (f .tied) 0 8)))
 
 -- bit v of the mask is set exactly when v is tied
 pub mask-bit : (f : Formula) (v : ℕ) → v < 8 → tiedMask f / 2 ^ v % 2 ≡ cond (isTied v (f .tied)) 1 0

@@ -6,7 +6,6 @@ use mathlib.Core.List.{List, [], _∷_}
 use mathlib.Core.Option.{Option, none, some}
 use lib.ListN.{length}
 use Rattle.base.specs.Lists.{All}
-use Rattle.event_log.specs.Log.{Kind}
 use Rattle.formula.specs.Formula.{Expr, CONST, VAR, COUNT, ADD, SUB, LESS, ATMOST, EQUAL, NOT, AND, OR, IF}
 use Rattle.formula.specs.Formula.{Clause, TEST, TESTV, BIND, Step, StateKind, ordinary, committed, accept, reject, State, Formula}
 use Rattle.formula.specs.Encode.{Command, TIED, STATE, STEP, CLAUSE, GUARD, commands}
@@ -58,11 +57,11 @@ Leaves P Q R (OR a b) = Leaves P Q R a × Leaves P Q R b
 Leaves P Q R (IF c a b) = Leaves P Q R c × Leaves P Q R a × Leaves P Q R b
 
 -- "accept or reject"
-abbrev pub final : StateKind → Bool
-final ordinary = false
-final committed = false
-final accept = true
-final reject = true
+abbrev pub isFinal : StateKind → Bool
+isFinal ordinary = false
+isFinal committed = false
+isFinal accept = true
+isFinal reject = true
 
 -- "Variables are 0 to 7"
 abbrev pub Variable : ℕ → Type 0
@@ -95,7 +94,7 @@ pub record StepFits (t : Step) : Type 0 where
 -- "STEP .. at most 8 a state; in accept or reject it is foreign"
 pub record StateFits (s : State) : Type 0 where
   pub steps : length (s .steps) ≤ 8
-  pub last : final (s .kind) ≡ true → s .steps ≡ []
+  pub last : isFinal (s .kind) ≡ true → s .steps ≡ []
   pub each : All StepFits (s .steps)
 
 -- "unbound at a TESTV": no clause of state s is a TESTV of an unbound variable
@@ -122,10 +121,10 @@ AllBound f s (x ∷ xs) = All (StepBound f s) (x .steps) × AllBound f (suc s) x
 -- "state 0 accepts or rejects"
 abbrev pub deadStart : List State → Bool
 deadStart [] = false
-deadStart (x ∷ xs) = final (x .kind)
+deadStart (x ∷ xs) = isFinal (x .kind)
 
--- a correct formula for a log with these fields
-pub record Correct (fields : List Kind) (f : Formula) : Type 0 where
+-- a correct formula for a log with so many fields
+pub record Correct (fields : ℕ) (f : Formula) : Type 0 where
   -- "TIED variable: up to 8 times"
   pub tied : length (f .tied) ≤ 8
   -- "1 to 16 states"
@@ -133,7 +132,7 @@ pub record Correct (fields : List Kind) (f : Formula) : Type 0 where
   pub states : length (f .states) ≤ 16
   pub each : All StateFits (f .states)
   -- no "kind, operator, field, variable or state does not exist"
-  pub values : All (Exists (length fields) (length (f .states))) (commands f)
+  pub values : All (Exists fields (length (f .states))) (commands f)
   -- not "state 0 accepts or rejects"
   pub start : deadStart (f .states) ≡ false
   -- nothing unbound

@@ -6,7 +6,6 @@ use mathlib.Core.Option.{Option, none, some}
 use lib.Dec.{ltb, eqb}
 use lib.ListN.{length, getD, drop}
 use Rattle.base.specs.Value.{valueAt}
-use Rattle.event_log.specs.Log.{Kind}
 use Rattle.refusal.specs.declared.File.the-variants.{Formula as InFormula}
 use Rattle.refusal.specs.declared.Refusal.{Refusal}
 use Rattle.refusal.specs.declared.Refusal.the-variants.{CutShort, Foreign, Value, Surplus, Leftover, DeadStart, Unbound as UnboundAt}
@@ -15,7 +14,7 @@ use Rattle.formula.specs.Formula.{Expr, CONST, VAR, COUNT, ADD, SUB, LES
 use Rattle.formula.specs.Formula.{Clause, TEST, TESTV, BIND, Step, StateKind, ordinary, committed, accept, reject, State, Formula}
 use Rattle.formula.specs.Encode.{Command, TIED, STATE, STEP, CLAUSE, GUARD, encodeExpr, encodeCommand, commands}
 use Rattle.formula.specs.Unbound.{binds, isUnbound}
-use Rattle.formula.specs.Correct.{final, deadStart}
+use Rattle.formula.specs.Correct.{isFinal, deadStart}
 
 -- the answer of reading: the formula, or the refusal
 pub data Reading : Type 0 where
@@ -37,7 +36,7 @@ start = record { tied = 0; states = 0; last = false; steps = 0; clauses = 0; gua
 -- the summary after one more command
 abbrev pub advance : Summary → Command → Summary
 advance s (TIED v) = record { tied = suc (s .tied); states = s .states; last = s .last; steps = s .steps; clauses = s .clauses; guarded = s .guarded }
-advance s (STATE k) = record { tied = s .tied; states = suc (s .states); last = final k; steps = 0; clauses = 0; guarded = false }
+advance s (STATE k) = record { tied = s .tied; states = suc (s .states); last = isFinal k; steps = 0; clauses = 0; guarded = false }
 advance s (STEP t) = record { tied = s .tied; states = s .states; last = s .last; steps = suc (s .steps); clauses = 0; guarded = false }
 advance s (CLAUSE c) = record { tied = s .tied; states = s .states; last = s .last; steps = s .steps; clauses = suc (s .clauses); guarded = s .guarded }
 advance s (GUARD e) = record { tied = s .tied; states = s .states; last = s .last; steps = s .steps; clauses = s .clauses; guarded = true }
@@ -288,6 +287,6 @@ unfoldable pub readFrom : ℕ → ℕ → Summary → List Command → ℕ → L
 readFrom zero fields s cs at rest = refused (CutShort InFormula at)
 readFrom (suc fuel) fields s cs at rest = follow (readFrom fuel fields) s cs at rest (next fields s at rest)
 
--- "A formula is read against an accepted log, which gives its fields"
-unfoldable pub readFormula : List Kind → List ℕ → Reading
-readFormula fields l = readFrom (suc (length l)) (length fields) start [] 0 l
+-- "A formula is read against an accepted log, which gives its fields": how many there are
+unfoldable pub readFormula : ℕ → List ℕ → Reading
+readFormula fields l = readFrom (suc (length l)) fields start [] 0 l

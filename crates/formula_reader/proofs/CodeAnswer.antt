@@ -1,8 +1,8 @@
 -- The reader's answer is the definition's: by the walk over the file to END, and what is judged after it.
-use Prim.Native.Nat.{ℕ, suc, _+_, _-_, _*_, _^_, _<_, _≤_}
+use Prim.Native.Nat.{ℕ, suc, _+_, _*_, _^_, _<_, _≤_}
 use mathlib.Core.Path.{_≡_, refl, sym, ap, _∙_, subst}
 use mathlib.Core.Bool.{Bool, true, false, cond}
-use mathlib.Core.Logic.{_⊎_, ⊎-elim}
+use mathlib.Core.Logic.{⊎-elim}
 use mathlib.Core.List.{List, [], _∷_, flatMap}
 use mathlib.Core.Option.{Option, none, some}
 use native.Mathlib.Omega.{arith}
@@ -13,7 +13,6 @@ use lib.Dec.{ltb}
 use lib.ListN.{length, getD, drop, replicate, length-append, length-drop}
 use Rattle.base.specs.Lists.{Bytes, pad}
 use Rattle.base.specs.Mask.{mask}
-use Rattle.event_log.specs.Log.{Kind}
 use Rattle.refusal.specs.declared.File.the-variants.{Formula as InFormula}
 use Rattle.refusal.specs.declared.Refusal.{Refusal}
 use Rattle.refusal.specs.declared.Refusal.the-variants.{Value, Leftover, DeadStart, Unbound as UnboundAt}
@@ -40,11 +39,6 @@ use Rattle.formula_reader.proofs.CodePlaces.{num, Below}
 use Rattle.formula_reader.proofs.CodeFirst.{placesFrom, absent-place, unbound-place, absent-below, unbound-below}
 use Rattle.formula_reader.proofs.CodeEdges.{kept, Rep, steps-kept, reach-is}
 
--- a list whose elements are bytes
-pub bytes-of : (l : List ℕ) → ((i : ℕ) → getD l i 0 < 256) → Bytes l
-bytes-of [] h = tt
-bytes-of (x ∷ xs) h = (h 0, bytes-of xs (λ i. h (suc i)))
-
 abbrev Taken? : Verdict → Type 0
 Taken? Accepted = Unit {0}
 Taken? (Refused r) = ⊥
@@ -53,27 +47,27 @@ abbrev refusalOf : Verdict → Refusal → Refusal
 refusalOf Accepted r = r
 refusalOf (Refused q) r = q
 
-module _ (kinds : List Kind) (l : List ℕ) (bytes : Bytes l) where
+module _ (fields : ℕ) (l : List ℕ) (bytes : Bytes l) where
   -- the whole file
-  read-outcome : Outcome (length kinds) l (suc (length l)) start [] 0 l
-  read-outcome = outcome (length kinds) l (suc (length l)) start [] 0 l bytes (reached-start (length kinds) l)
+  read-outcome : Outcome fields l (suc (length l)) start [] 0 l
+  read-outcome = outcome fields l (suc (length l)) start [] 0 l bytes (reached-start fields l)
 
   -- a walk that is refused, and the definition refuses the file so
-  pub refused-so : (r : Refusal) → scanFile (length kinds) l .verdict ≡ Refused r → readFormula kinds l ≡ refused r
+  pub refused-so : (r : Refusal) → scanFile fields l .verdict ≡ Refused r → readFormula fields l ≡ refused r
   unfolding readFormula scanFile draftAfter
   refused-so r e =
       ⊎-elim
-      (λ (w : Whole (length kinds) l (suc (length l)) start [] 0 l). absurd (subst Taken? (sym (ap (λ (x : Scan). x .verdict) (w .scans)) ∙ e) tt))
-      (λ (b : Broken (length kinds) l (suc (length l)) start [] 0 l). b .reads ∙ ap refused (ap (λ v. refusalOf v r) (sym (b .scans) ∙ e)))
+      (λ (w : Whole fields l (suc (length l)) start [] 0 l). absurd (subst Taken? (sym (ap (λ (x : Scan). x .verdict) (w .scans)) ∙ e) tt))
+      (λ (b : Broken fields l (suc (length l)) start [] 0 l). b .reads ∙ ap refused (ap (λ v. refusalOf v r) (sym (b .scans) ∙ e)))
       read-outcome
 
   -- a walk that reaches END
-  pub whole-of : scanFile (length kinds) l .verdict ≡ Accepted → Whole (length kinds) l (suc (length l)) start [] 0 l
+  pub whole-of : scanFile fields l .verdict ≡ Accepted → Whole fields l (suc (length l)) start [] 0 l
   unfolding scanFile draftAfter
   whole-of e =
       ⊎-elim
-      (λ (w : Whole (length kinds) l (suc (length l)) start [] 0 l). w)
-      (λ (b : Broken (length kinds) l (suc (length l)) start [] 0 l). absurd (subst Taken? (sym e ∙ b .scans) tt))
+      (λ (w : Whole fields l (suc (length l)) start [] 0 l). w)
+      (λ (b : Broken fields l (suc (length l)) start [] 0 l). absurd (subst Taken? (sym e ∙ b .scans) tt))
       read-outcome
 
 -- the number of states after one more command
@@ -204,37 +198,37 @@ module _ (fields : ℕ) (l : List ℕ) (w : Whole fields l (suc (length l)) star
       let z = ap (λ k. ltb 1 (getD k 0 0)) kinds-is ∙ dead-start (read-as .states) (complete .nonempty) in
       rw (a, u, z, same-commands, found (firstAbsent (length (read-as .states)) 0 cs) (absent-below fields (length (read-as .states)) cs (w .reached .operands) (w .reached .follows) few (short h)), found (firstUnbound (isUnbound read-as) 0 [] 0 cs) (unbound-below fields free (isUnbound read-as) (marks-are free m) cs (w .reached .operands) (w .reached .follows) (short h))) (judged draft read-as (firstAbsent (length (read-as .states)) 0 cs) (firstUnbound (isUnbound read-as) 0 [] 0 cs) (deadStart (read-as .states)) accepted-is)
 
-module _ (kinds : List Kind) (l : List ℕ) (bytes : Bytes l) where
+module _ (fields : ℕ) (l : List ℕ) (bytes : Bytes l) where
   -- a refused walk
-  pub answer-refused : (scan : Scan) (r : Refusal) → Scanned (length kinds) l scan → scan .verdict ≡ Refused r → answerOf (refused r) ≡ answerOf (readFormula kinds l)
-  answer-refused scan r h e = sym (ap answerOf (refused-so kinds l bytes r (ap (λ (x : Scan). x .verdict) (sym (h .is)) ∙ e)))
+  pub answer-refused : (scan : Scan) (r : Refusal) → Scanned fields l scan → scan .verdict ≡ Refused r → answerOf (refused r) ≡ answerOf (readFormula fields l)
+  answer-refused scan r h e = sym (ap answerOf (refused-so fields l bytes r (ap (λ (x : Scan). x .verdict) (sym (h .is)) ∙ e)))
 
   -- the draft of a walk that reached END
-  module _ (scan : Scan) (h : Scanned (length kinds) l scan) (e : scan .verdict ≡ Accepted) where
-    found-whole : Whole (length kinds) l (suc (length l)) start [] 0 l
-    found-whole = whole-of kinds l bytes (ap (λ (x : Scan). x .verdict) (sym (h .is)) ∙ e)
+  module _ (scan : Scan) (h : Scanned fields l scan) (e : scan .verdict ≡ Accepted) where
+    found-whole : Whole fields l (suc (length l)) start [] 0 l
+    found-whole = whole-of fields l bytes (ap (λ (x : Scan). x .verdict) (sym (h .is)) ∙ e)
 
     walked : scan .draft ≡ draftAfter emptyDraft (found-whole .es)
     unfolding scanFile draftAfter
     walked = ap (λ (x : Scan). x .draft) (h .is ∙ found-whole .scans)
 
     at-is : scan .draft .at ≡ found-whole .place
-    at-is = ap (λ (x : Draft). x .at) walked ∙ place-is (length kinds) l found-whole
+    at-is = ap (λ (x : Draft). x .at) walked ∙ place-is fields l found-whole
 
-    reading-is : readFormula kinds l ≡ afterEnd (assemble (found-whole .es)) (scan .draft .at + 1) (drop 1 (found-whole .left))
+    reading-is : readFormula fields l ≡ afterEnd (assemble (found-whole .es)) (scan .draft .at + 1) (drop 1 (found-whole .left))
     unfolding readFormula
     reading-is = found-whole .reads ∙ ap (λ n. afterEnd (assemble (found-whole .es)) (n + 1) (drop 1 (found-whole .left))) (sym at-is)
 
     length-so : length l ≡ scan .draft .at + 1 + length (drop 1 (found-whole .left))
-    length-so = length-is (length kinds) l found-whole ∙ ap (λ n. n + 1 + length (drop 1 (found-whole .left))) (sym at-is)
+    length-so = length-is fields l found-whole ∙ ap (λ n. n + 1 + length (drop 1 (found-whole .left))) (sym at-is)
 
     -- bytes behind END
-    pub answer-leftover : scan .draft .at + 1 < length l → answerOf (refused (Leftover InFormula (scan .draft .at + 1))) ≡ answerOf (readFormula kinds l)
+    pub answer-leftover : scan .draft .at + 1 < length l → answerOf (refused (Leftover InFormula (scan .draft .at + 1))) ≡ answerOf (readFormula fields l)
     answer-leftover k = sym (ap answerOf (reading-is ∙ after-more (assemble (found-whole .es)) (scan .draft .at + 1) (drop 1 (found-whole .left)) (let n = length-so in omega arith)))
 
     -- nothing behind END: what was gathered is judged
-    pub answer-judged : length l < 2 ^ 64 → length l ≤ scan .draft .at + 1 → (free : List Bool) → Free (kept (scan .draft)) free → judgedWith (scan .draft) (lowestOf (replicate 128 false) (128 + scan .draft .summary .states) (scan .draft .places)) (lowestOf free 145 (scan .draft .places)) ≡ answerOf (readFormula kinds l)
+    pub answer-judged : length l < 2 ^ 64 → length l ≤ scan .draft .at + 1 → (free : List Bool) → Free (kept (scan .draft)) free → judgedWith (scan .draft) (lowestOf (replicate 128 false) (128 + scan .draft .summary .states) (scan .draft .places)) (lowestOf free 145 (scan .draft .places)) ≡ answerOf (readFormula fields l)
     answer-judged s k free q =
         ap (λ (x : Draft). judgedWith x (lowestOf (replicate 128 false) (128 + x .summary .states) (x .places)) (lowestOf free 145 (x .places))) walked
-        ∙ judge-is (length kinds) l found-whole s free (subst (λ (x : Draft). Free (kept x) free) walked q)
+        ∙ judge-is fields l found-whole s free (subst (λ (x : Draft). Free (kept x) free) walked q)
         ∙ sym (ap answerOf (reading-is ∙ after-none (assemble (found-whole .es)) (scan .draft .at + 1) (drop 1 (found-whole .left)) (let n = length-so in omega arith)))

@@ -1,7 +1,7 @@
 -- The steps that the walk keeps are those of the formula, and the states reached over them are the definition's.
 use Prim.Native.Nat.{ℕ, zero, suc, _+_, _-_, _*_, _<_, _≤_}
 use mathlib.Core.Path.{_≡_, refl, sym, ap, _∙_, subst}
-use mathlib.Core.Bool.{Bool, true, false, _||_}
+use mathlib.Core.Bool.{Bool, true, false, _||_, or-false, or-assoc}
 use mathlib.Core.Logic.{_⊎_, ⊎-elim}
 use mathlib.Core.List.{List, [], _∷_, _++_, map, flatMap, append-assoc, append-nil}
 use mathlib.Core.Option.{Option, none, some}
@@ -24,7 +24,7 @@ use Rattle.formula_reader.specs.Reach.{Edges, edges, markBy, roundFrom, 
 use Rattle.formula.proofs.Basics.{all-left, all-right}
 use Rattle.formula.proofs.Commands.{Operands}
 use Rattle.formula.proofs.Counts.{Counts}
-use Rattle.formula_reader.proofs.CodeOutline.{or-false, or-assoc-bool, set-mark}
+use Rattle.formula_reader.proofs.CodeOutline.{set-mark}
 use Rattle.formula_reader.proofs.CodeTrace.{addC, draftAfter}
 
 -- one clause more
@@ -33,7 +33,7 @@ unfolding binds
 binds-snoc v [] c = refl
 binds-snoc v (TEST f o x ∷ xs) c = binds-snoc v xs c
 binds-snoc v (TESTV f o w ∷ xs) c = binds-snoc v xs c
-binds-snoc v (BIND f w ∷ xs) c = ap (λ b. eqb w v || b) (binds-snoc v xs c) ∙ sym (or-assoc-bool (eqb w v) (binds v xs) (binds v (c ∷ [])))
+binds-snoc v (BIND f w ∷ xs) c = ap (λ b. eqb w v || b) (binds-snoc v xs c) ∙ sym (or-assoc (eqb w v) (binds v xs) (binds v (c ∷ [])))
 
 abbrev noEdge : Edge
 noEdge = record { from = 0; step = record { target = 0; clauses = []; guard = none } }

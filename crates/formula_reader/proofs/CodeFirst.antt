@@ -1,7 +1,7 @@
 -- The lowest place of the states that are absent, and of the variables that are unbound, in the table after all commands is the definition's first bad place.
 use Prim.Native.Nat.{ℕ, suc, _+_, _-_, _*_, _<_, _≤_}
 use mathlib.Core.Path.{_≡_, refl, sym, ap, _∙_, subst}
-use mathlib.Core.Bool.{Bool, true, false, not, _||_}
+use mathlib.Core.Bool.{Bool, true, false, not, _||_, or-false}
 use mathlib.Core.List.{List, [], _∷_, flatMap}
 use native.Mathlib.Omega.{arith}
 use borrow.Author.Tests.{lt-ltb, le-ltb}
@@ -17,7 +17,7 @@ use Rattle.formula.proofs.Gather.{Follows}
 use Rattle.formula_reader.specs.Places.{nowhere, stateKey, picked, lowestOf}
 use Rattle.formula_reader.specs.Take.{commandShape, guardNoted}
 use Rattle.formula_reader.specs.Scan.{ownWith, placesWith}
-use Rattle.formula_reader.proofs.CodeOutline.{or-false, set-mark}
+use Rattle.formula_reader.proofs.CodeOutline.{set-mark}
 use Rattle.formula_reader.proofs.CodeEdges.{binds-snoc}
 use Rattle.formula_reader.proofs.CodePlaces.{num, Below, Holds, Reads, held, idle, notes, behind, then, state-key, Marks, expr-reads}
 

@@ -10,6 +10,7 @@ use borrow.Author.Tests.{ltb-true, ltb-false, lt-ltb, le-ltb, ne-eqb, eqb-false}
 use lib.Dec.{ltb, eqb}
 use lib.ListN.{length, getD, take, drop, length-append, length-drop}
 use lib.Seq.{take-all}
+use Rattle.base.proofs.Tests.{cond-holds}
 use Rattle.refusal.specs.declared.File.the-variants.{Formula as InFormula}
 use Rattle.refusal.specs.declared.Refusal.{Refusal}
 use Rattle.refusal.specs.declared.Refusal.the-variants.{CutShort, Value}
@@ -128,10 +129,6 @@ abbrev pub Fact : List ℕ → ExprNext → Type 0
 Fact bs (expression e u m) = Facts e u bs
 Fact bs (failed r) = Unit {0}
 
-cond-fact : (bs : List ℕ) (t : Bool) (x y : ExprNext) → (t ≡ true → Fact bs x) → (t ≡ false → Fact bs y) → Fact bs (cond t x y)
-cond-fact bs true x y h k = h refl
-cond-fact bs false x y h k = k refl
-
 -- operands are read as expressions
 abbrev Operand : Type 0
 Operand = ℕ → ℕ → List ℕ → ExprNext
@@ -166,9 +163,9 @@ module _ (op : Operand) (facts : AllFacts op) where
 
   exprOf-fact : (left at b : ℕ) (ops : List ℕ) (o : ExprOpcode) → Good o → Fact (b ∷ ops) (exprOf op left at ops o)
   unfolding encodeExpr bytesOf
-  exprOf-fact left at b ops const-op g = cond-fact (b ∷ ops) (ltb (length ops) 4) _ _ (λ h. tt) (λ h. record { used = refl; some = omega arith; inside = omega (arith, ltb-false (length ops) 4 h); vars = tt })
-  exprOf-fact left at b ops var-op g = cond-fact (b ∷ ops) (ltb (length ops) 1) _ _ (λ h. tt) (λ h. cond-fact (b ∷ ops) (ltb (getD ops 0 0) 8) _ _ (λ k. record { used = refl; some = omega arith; inside = omega (arith, ltb-false (length ops) 1 h); vars = ltb-true (getD ops 0 0) 8 k }) (λ k. tt))
-  exprOf-fact left at b ops count-op g = cond-fact (b ∷ ops) (ltb (length ops) 1) _ _ (λ h. tt) (λ h. record { used = refl; some = omega arith; inside = omega (arith, ltb-false (length ops) 1 h); vars = tt })
+  exprOf-fact left at b ops const-op g = cond-holds (Fact (b ∷ ops)) (ltb (length ops) 4) _ _ (λ h. tt) (λ h. record { used = refl; some = omega arith; inside = omega (arith, ltb-false (length ops) 4 h); vars = tt })
+  exprOf-fact left at b ops var-op g = cond-holds (Fact (b ∷ ops)) (ltb (length ops) 1) _ _ (λ h. tt) (λ h. cond-holds (Fact (b ∷ ops)) (ltb (getD ops 0 0) 8) _ _ (λ k. record { used = refl; some = omega arith; inside = omega (arith, ltb-false (length ops) 1 h); vars = ltb-true (getD ops 0 0) 8 k }) (λ k. tt))
+  exprOf-fact left at b ops count-op g = cond-holds (Fact (b ∷ ops)) (ltb (length ops) 1) _ _ (λ h. tt) (λ h. record { used = refl; some = omega arith; inside = omega (arith, ltb-false (length ops) 1 h); vars = tt })
   exprOf-fact left at b ops (unary mk) g = unary-fact mk g b ops (op left (at + 1) ops) (facts left (at + 1) ops)
   exprOf-fact left at b ops (binary mk) g = binary-fact mk g at b ops (op left (at + 1) ops) (facts left (at + 1) ops)
   exprOf-fact left at b ops (ternary mk) g = ternary-fact mk g at b ops (op left (at + 1) ops) (facts left (at + 1) ops)
@@ -337,10 +334,6 @@ abbrev Within : ℕ → List ℕ → ExprEnd → Type 0
 Within depth bs (whole p t) = (p .used ≤ length bs) × (0 < depth)
 Within depth bs (broken r) = Unit {0}
 
-either : {A : Type 0} (P : A → Type 0) (t : Bool) (x y : A) → (t ≡ true → P x) → (t ≡ false → P y) → P (cond t x y)
-either P true x y h k = h refl
-either P false x y h k = k refl
-
 module _ (s : ℕ) (own : List Bool) where
   over-within : (depth at : ℕ) (bs places : List ℕ) (t : Takes) → Within depth bs (endOf (over t at) places)
   over-within depth at bs places TakesValue = tt
@@ -351,18 +344,18 @@ module _ (s : ℕ) (own : List Bool) where
 
   head-of-within : (depth left at : ℕ) (bs places : List ℕ) → 0 < length bs → 0 < depth → (t : Takes) → Within depth bs (headOf s own left at bs places t)
   unfolding constHead varHead countHead
-  head-of-within depth left at bs places h k TakesValue = either (λ x. Within depth bs (endOf x places)) (ltb (length bs) 5) _ _ (λ e. tt) (λ e. (ltb-false (length bs) 5 e, k))
-  head-of-within depth left at bs places h k TakesVariable = either (Within depth bs) (ltb (length bs) 2) _ _ (λ e. tt) (λ e. either (Within depth bs) (ltb (getD bs 1 0) 8) _ _ (λ f. (ltb-false (length bs) 2 e, k)) (λ f. tt))
-  head-of-within depth left at bs places h k TakesState = either (Within depth bs) (ltb (length bs) 2) _ _ (λ e. tt) (λ e. (ltb-false (length bs) 2 e, k))
+  head-of-within depth left at bs places h k TakesValue = cond-holds (λ x. Within depth bs (endOf x places)) (ltb (length bs) 5) _ _ (λ e. tt) (λ e. (ltb-false (length bs) 5 e, k))
+  head-of-within depth left at bs places h k TakesVariable = cond-holds (Within depth bs) (ltb (length bs) 2) _ _ (λ e. tt) (λ e. cond-holds (Within depth bs) (ltb (getD bs 1 0) 8) _ _ (λ f. (ltb-false (length bs) 2 e, k)) (λ f. tt))
+  head-of-within depth left at bs places h k TakesState = cond-holds (Within depth bs) (ltb (length bs) 2) _ _ (λ e. tt) (λ e. (ltb-false (length bs) 2 e, k))
   head-of-within depth left at bs places h k (Operands n) = (h, k)
   head-of-within depth left at bs places h k TakesNothing = tt
 
   head-within : (depth left at : ℕ) (bs places : List ℕ) → Within depth bs (exprHead s own depth left at bs places)
   unfolding exprHead roomed
   head-within depth left at bs places =
-      either (Within depth bs) (eqb (length bs) 0) _ _ (λ e. tt) (λ e.
-      either (Within depth bs) (eqb depth 0) _ _ (λ f. over-within depth at bs places (takes (exprOpcode (getD bs 0 0)))) (λ f.
-      either (Within depth bs) (eqb left 0) _ _ (λ g. over-within depth at bs places (takes (exprOpcode (getD bs 0 0)))) (λ g.
+      cond-holds (Within depth bs) (eqb (length bs) 0) _ _ (λ e. tt) (λ e.
+      cond-holds (Within depth bs) (eqb depth 0) _ _ (λ f. over-within depth at bs places (takes (exprOpcode (getD bs 0 0)))) (λ f.
+      cond-holds (Within depth bs) (eqb left 0) _ _ (λ g. over-within depth at bs places (takes (exprOpcode (getD bs 0 0)))) (λ g.
       head-of-within depth (left - 1) at bs places (omega (arith, eqb-false (length bs) 0 e)) (omega (arith, eqb-false depth 0 f)) (takes (exprOpcode (getD bs 0 0))))))
 
   -- what a command comes to with its operands, each at most one level less deep

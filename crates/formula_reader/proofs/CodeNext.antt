@@ -1,5 +1,5 @@
 -- The next command on bytes alone is the definition's, and what is known of a command that was taken.
-use Prim.Native.Nat.{ℕ, zero, suc, _+_, _-_, _<_, _≤_}
+use Prim.Native.Nat.{ℕ, suc, _+_, _-_, _<_, _≤_}
 use mathlib.Core.Path.{_≡_, refl, ap}
 use mathlib.Core.Bool.{Bool, true, false, cond, not, _&&_}
 use mathlib.Core.List.{List, [], _∷_}
@@ -8,7 +8,7 @@ use native.Mathlib.Numerals.{one-add}
 use borrow.Author.Tests.{ltb-true, ltb-false}
 use lib.Dec.{ltb}
 use lib.ListN.{length, getD}
-use Rattle.base.proofs.Tests.{and-left, and-right}
+use Rattle.base.proofs.Tests.{cond-holds, and-left, and-right}
 use Rattle.base.specs.Value.{bytesOf, valueAt}
 use Rattle.refusal.specs.declared.File.the-variants.{Formula as InFormula}
 use Rattle.refusal.specs.declared.Refusal.{Refusal}
@@ -18,20 +18,12 @@ use Rattle.formula_reader.specs.declared.Command.{Command as Kept}
 use Rattle.formula_reader.specs.declared.Command.the-variants.{State}
 use Rattle.formula_reader.specs.declared.Next.the-variants.{Taken, Bad}
 use Rattle.formula.specs.Formula.{TEST, TESTV, BIND}
-use Rattle.formula.specs.Encode.{Command, TIED, STATE, STEP, CLAUSE, GUARD, kindByte, encodeClause, encodeCommand}
+use Rattle.formula.specs.Encode.{Command, TIED, STATE, STEP, CLAUSE, GUARD, encodeClause, encodeCommand}
 use Rattle.formula.specs.Read.{Summary, Opcode, end-op, state-op, step-op, test-op, testv-op, bind-op, guard-op, tied-op, other-op, opcode, allowed, room, operatorOf, kindOf, ExprNext, expression, failed, readExpr, Next, command, end, bad, operands, guardOf, operandsOf, next}
 use Rattle.formula_reader.specs.Prefix.{shape}
 use Rattle.formula_reader.specs.Take.{told, opcodeShape, commandShape, guardNoted, NextEnd, breaks, nextEnd, nextShape, allowedIn, roomIn, operandsAt, stateAt, stepAt, tiedAt, testAt, testvAt, bindAt, guardAt, takenAt, nextAt}
+use Rattle.formula.proofs.Commands.{kind-back}
 use Rattle.formula_reader.proofs.CodeGuard.{ltb-suc, suc-eqb, Vars, Fact, read-fact}
-
--- a kind's byte names it
-kind-of : (v : ℕ) → v < 4 → kindByte (kindOf v) ≡ v
-unfolding kindOf
-kind-of zero h = refl
-kind-of (suc zero) h = refl
-kind-of (suc (suc zero)) h = refl
-kind-of (suc (suc (suc zero))) h = refl
-kind-of (suc (suc (suc (suc v)))) h = absurd (omega arith)
 
 -- what is allowed, and room
 allowed-is : (s : Counts) (o : Opcode) → allowed (told s) o ≡ allowedIn s (opcodeShape o)
@@ -81,7 +73,7 @@ module _ (st : ℕ) (own : List Bool) (at : ℕ) (places : List ℕ) where
   taken-is : (fields b : ℕ) (ops : List ℕ) (o : Opcode) → nextShape st own at places (operandsOf fields at ops o) ≡ takenAt st own fields (b ∷ ops) at places (opcodeShape o)
   unfolding stateAt stepAt tiedAt testAt testvAt bindAt guardAt
   taken-is fields b ops end-op = refl
-  taken-is fields b ops state-op = fixed b ops 1 (ltb (getD ops 0 0) 4) (STATE (kindOf (getD ops 0 0))) (State (getD ops 0 0)) refl (λ e. ap State (kind-of (getD ops 0 0) (ltb-true (getD ops 0 0) 4 e)))
+  taken-is fields b ops state-op = fixed b ops 1 (ltb (getD ops 0 0) 4) (STATE (kindOf (getD ops 0 0))) (State (getD ops 0 0)) refl (λ e. ap State (kind-back (getD ops 0 0) (ltb-true (getD ops 0 0) 4 e)))
   taken-is fields b ops step-op = fixed b ops 1 true (STEP (getD ops 0 0)) _ refl (λ e. refl)
   taken-is fields b ops test-op = fixed b ops 6 (ltb (getD ops 0 0) fields && ltb (getD ops 1 0) 6) (CLAUSE (TEST (getD ops 0 0) (operatorOf (getD ops 1 0)) (valueAt ops 2))) _ refl (λ e. refl)
   taken-is fields b ops testv-op = fixed b ops 3 (ltb (getD ops 0 0) fields && ltb (getD ops 1 0) 6 && ltb (getD ops 2 0) 8) (CLAUSE (TESTV (getD ops 0 0) (operatorOf (getD ops 1 0)) (getD ops 2 0))) _ refl (λ e. refl)
@@ -123,10 +115,6 @@ NextFacts s bs (command c u) = CommandFacts s c u bs
 NextFacts s bs end = 0 < length bs
 NextFacts s bs (bad r) = Unit {0}
 
-either : (P : Next → Type 0) (t : Bool) (x y : Next) → (t ≡ true → P x) → (t ≡ false → P y) → P (cond t x y)
-either P true x y h k = h refl
-either P false x y h k = k refl
-
 -- an allowed command for which there is room
 passing : (s : Summary) (bs : List ℕ) (t u : Bool) (x : Next) (p q : Refusal) → (t ≡ true → u ≡ true → NextFacts s bs x) → NextFacts s bs (cond t (cond u x (bad p)) (bad q))
 passing s bs true true x p q h = h refl refl
@@ -136,7 +124,7 @@ passing s bs false u x p q h = tt
 -- a command of a fixed width
 fixed-facts : (s : Summary) (at b : ℕ) (ops : List ℕ) (w : ℕ) (exist : Bool) (c : Command) → 1 + w ≡ length (encodeCommand c) → (exist ≡ true → Fits s c) → NextFacts s (b ∷ ops) (operands at ops w exist c)
 fixed-facts s at b ops w exist c e h =
-    either (NextFacts s (b ∷ ops)) (ltb (length ops) w) _ _ (λ f. tt) (λ f. either (NextFacts s (b ∷ ops)) exist _ _ (λ g. record { used = e; some = omega arith; inside = omega (arith, ltb-false (length ops) w f); fits = h g }) (λ g. tt))
+    cond-holds (NextFacts s (b ∷ ops)) (ltb (length ops) w) _ _ (λ f. tt) (λ f. cond-holds (NextFacts s (b ∷ ops)) exist _ _ (λ g. record { used = e; some = omega arith; inside = omega (arith, ltb-false (length ops) w f); fits = h g }) (λ g. tt))
 
 guard-facts : (s : Summary) (b : ℕ) (ops : List ℕ) → 0 < s .steps → (x : ExprNext) → Fact ops x → NextFacts s (b ∷ ops) (guardOf x)
 unfolding encodeCommand

@@ -1,7 +1,7 @@
 -- What the walk gathers is what the definition assembles: the table, the kinds, the tied variables, the first absent state.
 use Prim.Native.Nat.{ℕ, _+_, _*_, _<_}
 use mathlib.Core.Path.{_≡_, refl, sym, ap, _∙_, subst}
-use mathlib.Core.Bool.{Bool, true, false, _||_}
+use mathlib.Core.Bool.{Bool, true, false, _||_, or-true, or-false, or-assoc}
 use mathlib.Core.List.{List, [], _∷_, _++_, map, append-nil}
 use native.Mathlib.Omega.{arith}
 use native.Mathlib.Nat.{zero-add, one-mul}
@@ -23,18 +23,6 @@ use Rattle.formula.proofs.Gather.{Follows}
 use Rattle.formula.proofs.Table.{filled, fill}
 use Rattle.formula.proofs.Ties.{mask-from}
 use Rattle.formula_reader.proofs.CodeTrace.{addC, draftAfter, told-add}
-
-pub or-true : (b : Bool) → (b || true) ≡ true
-or-true true = refl
-or-true false = refl
-
-pub or-false : (b : Bool) → (b || false) ≡ b
-or-false true = refl
-or-false false = refl
-
-pub or-assoc-bool : (a b c : Bool) → ((a || b) || c) ≡ (a || (b || c))
-or-assoc-bool true b c = refl
-or-assoc-bool false b c = refl
 
 -- a mark set in a list
 pub set-mark : (m : List Bool) (v w : ℕ) → w < length m → getD (set m v true) w false ≡ (getD m w false || eqb v w)
@@ -86,7 +74,7 @@ ties-at d [] w h = sym (or-false (getD (d .ties) w false))
 ties-at d (TIED v ∷ cs) w h =
     ties-at (addC d (TIED v)) cs w (subst (λ n. w < n) (sym (length-set (d .ties) v true)) h)
     ∙ ap (λ b. b || isTied w (gatherAll cs .tied)) (set-mark (d .ties) v w h)
-    ∙ or-assoc-bool (getD (d .ties) w false) (eqb v w) (isTied w (gatherAll cs .tied))
+    ∙ or-assoc (getD (d .ties) w false) (eqb v w) (isTied w (gatherAll cs .tied))
 ties-at d (STATE k ∷ cs) w h = ties-at (addC d (STATE k)) cs w h
 ties-at d (STEP t ∷ cs) w h = ties-at (addC d (STEP t)) cs w h
 ties-at d (CLAUSE (TEST f o x) ∷ cs) w h = ties-at (addC d (CLAUSE (TEST f o x))) cs w h

@@ -18,7 +18,7 @@ use Rattle.formula_reader.specs.declared.Scan.{Scan}
 use Rattle.formula_reader.specs.declared.Verdict.the-variants.{Refused}
 use Rattle.formula.specs.Formula.{TEST, TESTV, BIND, StateKind, ordinary, committed, accept, reject}
 use Rattle.formula.specs.Encode.{Command, TIED, STATE, STEP, CLAUSE, GUARD, kindByte, encodeCommand}
-use Rattle.formula.specs.Correct.{final}
+use Rattle.formula.specs.Correct.{isFinal}
 use Rattle.formula.specs.Read.{refused, Summary, start, advance, Next, command, end, bad, next, assemble, afterEnd, follow, readFrom}
 use Rattle.formula_reader.specs.Take.{told, commandShape, guardNoted, nextShape}
 use Rattle.formula_reader.specs.Scan.{added, emptyDraft, arrived, onward, nextFrom, scanFrom}
@@ -34,7 +34,7 @@ unfoldable pub draftAfter : Draft → List Command → Draft
 draftAfter d [] = d
 draftAfter d (c ∷ cs) = draftAfter (addC d c) cs
 
-pub last-kind : (k : StateKind) → ltb 1 (kindByte k) ≡ final k
+pub last-kind : (k : StateKind) → ltb 1 (kindByte k) ≡ isFinal k
 last-kind ordinary = refl
 last-kind committed = refl
 last-kind accept = refl

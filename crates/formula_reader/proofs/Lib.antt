@@ -12,3 +12,4 @@ pub mod CodeEdges
 pub mod CodePlaces
 pub mod CodeFirst
 pub mod CodeAnswer
+pub mod Answers

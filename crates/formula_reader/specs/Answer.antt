@@ -1,5 +1,6 @@
 -- What the reader of a formula answers.
 use Prim.Native.Nat.{ℕ}
+use mathlib.Core.Path.{_≡_}
 use mathlib.Core.Bool.{cond}
 use mathlib.Core.List.{List, map}
 use lib.Dec.{ltb}
@@ -16,7 +17,7 @@ use Rattle.formula_reader.specs.declared.FormulaReading.{FormulaReading}
 use Rattle.formula.specs.Formula.{State}
 use Rattle.formula.specs.Encode.{kindByte}
 use Rattle.formula.specs.Lookup.{stepTable, tiedMask}
-use Rattle.formula.specs.Read.{Reading, accepted, refused}
+use Rattle.formula.specs.Read.{Reading, accepted, refused, readFormula}
 use Rattle.formula_reader.specs.Places.{nowhere}
 
 -- the kinds of the states, 0 where there is none
@@ -27,6 +28,10 @@ kindsOf xs = pad 16 0 (map (λ (x : State). kindByte (x .kind)) xs)
 unfoldable pub answerOf : Reading → FormulaReading
 answerOf (accepted f) = record { verdict = Accepted; states = length (f .states); kinds = kindsOf (f .states); table = stepTable f; tied = tiedMask f }
 answerOf (refused r) = record { verdict = Refused r; states = 0; kinds = replicate 16 0; table = replicate 128 0; tied = 0 }
+
+-- The contract of the entry `read_formula`: r is the answer for the file's bytes, against a log with so many fields.
+abbrev pub ReadsFormula : List ℕ → ℕ → FormulaReading → Type 0
+ReadsFormula f fields r = r ≡ answerOf (readFormula fields f)
 
 -- the answer of an accepted formula, from what was gathered of it
 abbrev pub acceptedWith : Draft → FormulaReading

@@ -25,8 +25,8 @@ ghost use mathlib.Core.Path.{_≡_};
 ghost use mathlib.Core.List.{List};
 ghost use Rattle.event_log.specs.Log.{Kind};
 ghost use lib.ListN.{length};
-ghost use Rattle.formula.specs.Read.{refused, readFormula};
-ghost use Rattle.formula_reader.specs.Answer.{answerOf, acceptedWith, judgedWith, refusalIn};
+ghost use Rattle.formula.specs.Read.{refused};
+ghost use Rattle.formula_reader.specs.Answer.{answerOf, acceptedWith, judgedWith, refusalIn, ReadsFormula};
 ghost use Rattle.formula_reader.specs.Scan.{emptyDraft, stopped, finishedWith, Scanned};
 
 // Whether a formula is accepted.
@@ -281,7 +281,7 @@ fn judge_with(d: Draft, absent: usize, unbound: usize) -> FormulaReading
 
 // Reads a formula file against a log with this many fields: accepted or refused, exactly as the definition reads its bytes.
 pub fn read_formula(l: &[u8], fields: usize) -> FormulaReading
-    ensures { λ a. ⌜ ((kinds : List Kind) → length kinds ≡ fields → a ≡ answerOf (readFormula kinds (now (l .entry)))) ⌝ }
+    ensures { λ a. ⌜ ReadsFormula (now (l .entry)) fields a ⌝ }
 {
     let scan = scan_file(l, fields);
     let verdict = scan.verdict;

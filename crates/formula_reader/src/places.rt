@@ -1,28 +1,18 @@
 // Where variables and states are first named: a table with the lowest place of each key.
 ghost use mathlib.Core.Path.{_≡_};
 ghost use mathlib.Core.Bool.{cond};
-ghost use Prim.Native.Nat.{_<_, min};
+ghost use Prim.Native.Nat.{_<_};
 ghost use Rattle.formula_reader.specs.Places.{nowhere, noted, stateKey, varNoted, picked, lowestOf};
 
 // The place of what is named nowhere, above all places of a file.
 pub const NOWHERE: usize = 18446744073709551615;
-
-// The lower of two places.
-fn lower(a: usize, b: usize) -> usize
-    ensures { λ r. ⌜ r ≡ min a b ⌝ }
-{
-    if a < b {
-        return a;
-    }
-    b
-}
 
 // A key is named at `at`: the lowest place is kept.
 pub fn note(places: &mut [usize; 145], key: usize, at: usize)
     requires { ⌜ key < 145 ⌝ }
     ensures { λ r. ⌜ now (places .exit) ≡ noted (now (places .entry)) key at ⌝ }
 {
-    let lowest = lower(at, places[key]);
+    let lowest = base::lower(at, places[key]);
     places[key] = lowest;
 }
 
@@ -75,7 +65,7 @@ pub fn lowest_of(free: [bool; 128], from: usize, places: &[usize; 145]) -> usize
     let mut key: usize = 145;
     while 0 < key {
         key -= 1;
-        lowest = lower(place_if(is_picked(free, from, key), places[key]), lowest);
+        lowest = base::lower(place_if(is_picked(free, from, key), places[key]), lowest);
     }
     lowest
 }

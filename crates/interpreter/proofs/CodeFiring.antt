@@ -1,5 +1,5 @@
 -- Firing over the formula's bytes: what each function of the code computes, and that on a step's bytes it is the definition's firing.
-use Prim.Native.Nat.{ℕ, zero, suc, _+_, _<_, _≤_, min}
+use Prim.Native.Nat.{ℕ, suc, _+_, _<_, _≤_, min}
 use mathlib.Core.Path.{_≡_, refl, ap, sym, _∙_}
 use mathlib.Core.Bool.{Bool, true, false, cond, _&&_}
 use mathlib.Core.List.{List, [], _∷_, _++_, append-assoc, append-nil, flatMap, map}
@@ -9,6 +9,7 @@ use borrow.Author.Tests.{lt-ltb, le-leb, lt-leb, ne-eqb, ltb-true, ltb-false}
 use lib.ListN.{length, getD, drop, set, replicate, List·getD-eq-default, length-drop, length-append}
 use lib.Seq.{set-out}
 use lib.Dec.{ltb}
+use Rattle.base.proofs.Lists.{replicate-at}
 use Rattle.base.specs.Lists.{All}
 use Rattle.event_log.specs.Log.{Kind}
 use Rattle.formula.specs.Formula.{Expr, Clause, Step, Formula}
@@ -195,17 +196,11 @@ pub record FiresAs (f : List ℕ) (at : ℕ) (c : Configuration) (s : Step) (eve
   pub fires-as : (fired f at c event) .fires ≡ fires (configOf c) s event
   pub leaves-as : configOf ((fired f at c event) .config) ≡ leave (configOf c) s event
 
--- no field rises, as marks and as kinds
-none-rises : (g n : ℕ) → getD (replicate n false) g false ≡ false
-none-rises g zero = refl
-none-rises zero (suc n) = refl
-none-rises (suc g) (suc n) = none-rises g n
-
 pub fire-encode : (fields states : ℕ) (f : List ℕ) (at : ℕ) (c : Configuration) (s : Step) (event : List ℕ) → StepAt fields states f at s → Ready c → FiresAs f at c s event
 unfolding fired configOf leave begun
 fire-encode fields states f at c s event h r =
     let w = walked f at c (replicate 8 false) event in
-    let a : Along [] (configOf c) (configOf c) event (s .clauses) (begun at c) w = walked-along fields states f at s h [] (replicate 8 false) (λ g. none-rises g 8) c event in
+    let a : Along [] (configOf c) (configOf c) event (s .clauses) (begun at c) w = walked-along fields states f at s h [] (replicate 8 false) (λ g. replicate-at 8 g false) c event in
     let g = guard-left fields states f at s h c (replicate 8 false) event r (a .agrees) in
     let i = lt-leb (length f) at (inside fields states f at s h) in
     let t = target-byte fields states f at s h in

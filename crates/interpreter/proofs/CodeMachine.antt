@@ -10,12 +10,13 @@ use lib.ListN.{length, getD}
 use lib.Dec.{eqb}
 use Rattle.event_log.specs.Log.{Log}
 use Rattle.formula.specs.Formula.{Step, Formula}
+use Rattle.formula.specs.Lookup.{stepAt}
 use Rattle.runs.specs.Search.{anyAlive}
 use Rattle.interpreter.specs.declared.Configuration.{Configuration}
 use Rattle.machine.specs.Configuration.{Config}
 use Rattle.machine.specs.Firing.{field, fires}
 use Rattle.machine.specs.Expiry.{rises}
-use Rattle.machine.specs.Machine.{stepOf, eventAt, latest, fireBy, fireAt, expiredBy, expiredAt, machine}
+use Rattle.machine.specs.Machine.{eventAt, latest, fireBy, fireAt, expiredBy, expiredAt, machine}
 use Rattle.interpreter.specs.Bytes.{fired, lapsed, configOf, offsetOf, isStep, firesAt, expiresAt, lowestFrom, lowestOf, aliveBelow}
 use Rattle.machine.proofs.Walk.{fire-fields, expired-fields}
 use Rattle.interpreter.proofs.CodeFiring.{StepAt, Ready, inside, fire-answer}
@@ -28,7 +29,7 @@ StepThere fields states f at (some s) = (0 < at) × StepAt fields states f at s
 
 -- The table is right for every step of the formula.
 pub record Charted (fields states : ℕ) (formula : Formula) (f table : List ℕ) : Type 0 where
-  pub stands : (s k : ℕ) → k < 8 → StepThere fields states f (offsetOf table s k) (stepOf formula s k)
+  pub stands : (s k : ℕ) → k < 8 → StepThere fields states f (offsetOf table s k) (stepAt formula s k)
 
 -- a step fires if it leaves something
 abbrev pub isFired : Option Config → Bool
@@ -72,13 +73,13 @@ module _ (log : Log) (formula : Formula) (fields states : ℕ) (f table : List �
   -- Step k fires in the code exactly where it fires in the machine.
   pub fires-machine : (k : ℕ) → k < 8 → firesAt f table c event k ≡ isFired (fireAt log formula (configOf c) n k)
   unfolding firesAt fireAt configOf
-  fires-machine k h = fires-by fields states f c r (stepOf formula (c .state) k) (offsetOf table (c .state) k) event (chart .stands (c .state) k h) ∙ ap isFired (same-fire (stepOf formula (c .state) k))
+  fires-machine k h = fires-by fields states f c r (stepAt formula (c .state) k) (offsetOf table (c .state) k) event (chart .stands (c .state) k h) ∙ ap isFired (same-fire (stepAt formula (c .state) k))
 
   module _ (rising : List Bool) (mark : (g : ℕ) → getD rising g false ≡ rises (log .fields) g) where
     -- Step k is expired in the code exactly where it is expired in the machine.
     pub expires-machine : (k : ℕ) → k < 8 → expiresAt f table c rising event k ≡ expiredAt log formula (configOf c) k n
     unfolding expiresAt expiredAt latest configOf
-    expires-machine k h = expires-by fields states f c r log rising mark (stepOf formula (c .state) k) (offsetOf table (c .state) k) event (chart .stands (c .state) k h) ∙ same-expired (stepOf formula (c .state) k)
+    expires-machine k h = expires-by fields states f c r log rising mark (stepAt formula (c .state) k) (offsetOf table (c .state) k) event (chart .stands (c .state) k h) ∙ same-expired (stepAt formula (c .state) k)
 
     alive-machine : (m : ℕ) → m ≤ 8 → aliveBelow (expiresAt f table c rising event) m ≡ anyAlive (machine log formula) (configOf c) n m
     unfolding aliveBelow anyAlive

@@ -1,10 +1,10 @@
 -- What an event alone says of a step: a clause that fails keeps the walk from passing, and one past due stays past due, whatever follows.
 use Prim.Native.Nat.{ℕ, zero, suc, _+_, _≤_}
 use mathlib.Core.Path.{_≡_, refl, ap, sym, _∙_}
-use mathlib.Core.Bool.{Bool, true, false, cond, not, _&&_, _||_}
+use mathlib.Core.Bool.{Bool, true, false, cond, not, _&&_, _||_, false≢true}
 use mathlib.Core.List.{List}
 use native.Mathlib.Omega.{arith}
-use borrow.Author.Tests.{ne-eqb, eqb-true}
+use borrow.Author.Tests.{ne-eqb, eqb-true, not-true}
 use lib.ListN.{length, getD, replicate}
 use lib.Dec.{eqb, leb}
 use Rattle.base.specs.Value.{valueAt}
@@ -13,12 +13,9 @@ use Rattle.interpreter.specs.declared.Fired.{Fired}
 use Rattle.interpreter.specs.declared.Walked.{Walked}
 use Rattle.interpreter.specs.Bytes.{holdsBy, missedBy, isClause, tested, holding, bound, clauseAt, walkFrom, begun, walked, fired, lapsed}
 use Rattle.base.proofs.Tests.{and-false, or-right}
-use Rattle.runs.proofs.Moves.{and-both, not-true}
+use Rattle.runs.proofs.Moves.{and-both}
 use Rattle.interpreter.specs.Marks.{MarkIs, widthOf, failsAt, missesAt}
 use Rattle.interpreter.proofs.CodeWalk.{Walking, clause-in, walking-start, walking-more}
-
-no : {A : Type 0} → false ≡ true → A
-no e = let n : _≡_ {A = ℕ} 0 1 = ap (λ b. cond b 1 0) e in absurd (omega arith)
 
 and-fails : (a b : Bool) → a ≡ false → (a && b) ≡ false
 and-fails a b h = rw h
@@ -149,7 +146,7 @@ Reached f event at place barred = (c : Configuration) (rises : List Bool) → St
 module _ (f event : List ℕ) (at : ℕ) where
   pub reach-start : Reached f event at (at + 2) false
   unfolding begun
-  reach-start c rises = record { w = begun at c; walking = walking-start f (c .values) rises event (begun at c); stands = refl; blocked = λ e. no e }
+  reach-start c rises = record { w = begun at c; walking = walking-start f (c .values) rises event (begun at c); stands = refl; blocked = λ e. absurd (false≢true e) }
 
   next : (place : ℕ) (barred : Bool) (c : Configuration) (rises : List Bool) → (widthOf (getD f place 0) ≡ 0 → ⊥) → Standing f event at place barred c rises → (b : Bool)
       → ((w : Walked) → w .at ≡ place → (barred ≡ true → w .passes ≡ false) → b ≡ true → (clauseAt f (c .values) rises event w) .passes ≡ false)
@@ -200,10 +197,10 @@ module _ (f event : List ℕ) (at : ℕ) where
       go false u v h = rw h
 
   pub mark-none : (rises : List Bool) → MarkIs f at rises event (record { barred = false; due = false })
-  mark-none rises = record { silent = λ e. no e; over = λ e. no e }
+  mark-none rises = record { silent = λ e. absurd (false≢true e); over = λ e. absurd (false≢true e) }
 
   pub mark-left : (rises : List Bool) (place : ℕ) (barred : Bool) → Reached f event at place barred → MarkIs f at rises event (record { barred = barred; due = false })
-  mark-left rises place barred r = record { silent = silence place barred r; over = λ e. no e }
+  mark-left rises place barred r = record { silent = silence place barred r; over = λ e. absurd (false≢true e) }
 
   -- a TEST past due: whatever is held, the step is expired
   pub mark-over : (rises : List Bool) (place taken command : ℕ) (barred : Bool) → command ≡ getD f place 0 → taken ≡ widthOf command → (taken ≡ 0 → ⊥) → failsAt f command place event ≡ true → missesAt f place rises event ≡ true

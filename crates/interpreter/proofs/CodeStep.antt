@@ -1,7 +1,7 @@
 -- On a step's bytes, whatever follows them, the code's walk over the clauses is the definition's.
 use Prim.Native.Nat.{ℕ, zero, suc, _+_, _≤_}
 use mathlib.Core.Path.{_≡_, refl, ap, sym, _∙_}
-use mathlib.Core.Bool.{Bool, true, false, _&&_, _||_}
+use mathlib.Core.Bool.{Bool, true, false, _&&_, _||_, and-assoc, or-assoc}
 use mathlib.Core.List.{List, [], _∷_, _++_, append-assoc, flatMap}
 use native.Mathlib.Omega.{arith}
 use native.Mathlib.Nat.{add-zero}
@@ -124,14 +124,6 @@ missed-operator less x y = refl
 missed-operator greater x y = refl
 missed-operator atmost x y = refl
 missed-operator atleast x y = refl
-
-and-assoc : (a b d : Bool) → (a && b) && d ≡ a && (b && d)
-and-assoc true b d = refl
-and-assoc false b d = refl
-
-or-assoc : (a b d : Bool) → (a || b) || d ≡ a || (b || d)
-or-assoc true b d = refl
-or-assoc false b d = refl
 
 -- the walk holds what the configuration holds
 pub record Agrees (w : Walked) (d : Config) : Type 0 where

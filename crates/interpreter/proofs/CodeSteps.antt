@@ -8,6 +8,7 @@ use native.Mathlib.Numerals.{add-one}
 use borrow.Author.Tests.{le-leb, lt-leb, ltb-true, eq-eqb, ne-eqb, eqb-true, eqb-false}
 use lib.ListN.{length, getD, replicate, List·getD-eq-default}
 use lib.Dec.{eqb, ltb}
+use Rattle.base.proofs.Tests.{or-right}
 use Rattle.interpreter.specs.declared.Configuration.{Configuration}
 use Rattle.interpreter.specs.declared.Walked.{Walked}
 use Rattle.interpreter.specs.Bytes.{isClause, walkFrom, begun, walked, raised, guardAt, fired, lapsed, offsetOf, isStep, firesAt, expiresAt, lowestFrom, lowestOf, aliveBelow}
@@ -44,10 +45,6 @@ step-inside f at h = go (eqb at 0) h
 or-first : (a b : Bool) → a ≡ true → (a || b) ≡ true
 or-first a b h = rw h
 
-or-second : (a b : Bool) → b ≡ true → (a || b) ≡ true
-or-second true b h = refl
-or-second false b h = h
-
 -- the search for the lowest number that passes a test
 module _ (p : ℕ → Bool) where
   pub lowest-start : lowestOf p ≡ lowestFrom p 0 (8 - 0)
@@ -83,7 +80,7 @@ module _ (p : ℕ → Bool) where
     where
       go : (k < n → aliveBelow p n ≡ true) → (b : Bool) → eqb k n ≡ b → (not (p n) || aliveBelow p n) ≡ true
       go ih true q = or-first (not (p n)) (aliveBelow p n) (ap (λ i. not (p i)) (sym (eqb-true k n q)) ∙ e)
-      go ih false q = or-second (not (p n)) (aliveBelow p n) (ih (omega (arith, eqb-false k n q)))
+      go ih false q = or-right (not (p n)) (aliveBelow p n) (ih (omega (arith, eqb-false k n q)))
 
   pub alive-here : (k : ℕ) → k < 8 → not (p k) ≡ true → true ≡ aliveBelow p 8
   alive-here k h e = sym (alive-below k 8 h e)

@@ -7,6 +7,5 @@ pub mod CodeStep
 pub mod CodeTrend
 pub mod CodeExpiry
 pub mod CodeSteps
-pub mod CodeSame
 pub mod CodeMachine
 pub mod CodeLookup

@@ -218,17 +218,6 @@ offsetOf table s k = cond (leb 8 k) 0 (getD table (s * 8 + k) 0)
 unfoldable pub isStep : List ℕ → ℕ → Bool
 isStep f at = cond (eqb at 0) false (ltb at (length f))
 
--- a configuration that holds nothing
-abbrev pub blank : Configuration
-blank = record { state = 0; held = replicate 8 false; values = replicate 8 0; counters = replicate 16 0 }
-
--- where the GUARD of step k of state s stands: where a walk over the step's clauses ends; 0 where none stands there
-abbrev pub guardHere : List ℕ → ℕ → ℕ
-guardHere f at = cond (eqb (getD f at 0) 0x15) at 0
-
-unfoldable pub guardOffset : List ℕ → List ℕ → ℕ → ℕ → ℕ
-guardOffset f table s k = cond (isStep f (offsetOf table s k)) (guardHere f ((walked f (offsetOf table s k) blank (replicate 8 false) (replicate 8 0)) .at)) 0
-
 -- step k of the configuration's state fires on the event; it is expired by its values, as is one that is not there
 unfoldable pub firesAt : List ℕ → List ℕ → Configuration → List ℕ → ℕ → Bool
 firesAt f table c event k = isStep f (offsetOf table (c .state) k) && (fired f (offsetOf table (c .state) k) c event) .fires

@@ -1,6 +1,5 @@
 // One step of the semantics over the formula's bytes: guards, clauses, firing, expiry, and the steps of a state by number.
 mod clauses;
-pub mod compare;
 pub mod expiring;
 pub mod firing;
 mod guard;

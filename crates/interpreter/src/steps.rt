@@ -3,13 +3,12 @@ use crate::Configuration;
 use crate::clauses::begin;
 use crate::clauses::clause;
 use crate::clauses::is_clause;
-use crate::clauses::walk;
 use crate::expiring::expired;
 use crate::firing::guard_holds;
 use crate::firing::raise;
 ghost use mathlib.Core.Path.{_≡_};
 ghost use mathlib.Core.Bool.{not};
-ghost use Rattle.interpreter.specs.Bytes.{offsetOf, isStep, guardOffset, firesAt, lowestOf, expiresAt, aliveBelow};
+ghost use Rattle.interpreter.specs.Bytes.{offsetOf, isStep, firesAt, lowestOf, expiresAt, aliveBelow};
 
 // Where step k of state s stands, 0 where there is none.
 pub fn step_offset(table: &[usize], s: u32, k: usize) -> usize
@@ -33,25 +32,6 @@ fn is_step(f: &[u8], at: usize) -> bool
         return false;
     }
     at < f.len()
-}
-
-// Where the GUARD of step k of state s stands, 0 where there is none.
-pub fn guard_offset(f: &[u8], table: &[usize], s: u32, k: usize) -> usize
-    ensures { λ r. ⌜ r ≡ guardOffset (now (f .entry)) (now (table .entry)) s k ⌝ }
-{
-    let at = step_offset(table, s, k);
-    if !is_step(f, at) {
-        return 0;
-    }
-    let blank = Configuration {
-        state: 0,
-        held: [false; 8],
-        values: [0; 8],
-        counters: [0; 16],
-    };
-    let w = walk(f, at, blank, [false; 8], [0; 8]);
-    let command = base::byte_at(f, w.at);
-    if command == 0x15 { w.at } else { 0 }
 }
 
 // The number of the lowest numbered step of the configuration's state that fires on the event, 8 where none does.

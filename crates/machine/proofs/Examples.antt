@@ -8,11 +8,13 @@ use native.Mathlib.Omega.{arith}
 use lib.ListN.{getD, replicate}
 use Rattle.event_log.specs.Log.{plain, rising as risingField, Log}
 use Rattle.formula.specs.Formula.{equal, less, atmost, Clause, TEST, TESTV, BIND, Step, ordinary, accept, Formula, Expr, CONST, VAR, COUNT, ADD, SUB, LESS, EQUAL, OR, IF}
+use Rattle.formula.specs.Unbound.{stepsOf}
+use Rattle.formula.specs.Lookup.{stepAt}
 use Rattle.machine.specs.Configuration.{Config, start}
 use Rattle.machine.specs.Guard.{value}
 use Rattle.machine.specs.Firing.{hold, leave, fires, fire}
 use Rattle.machine.specs.Expiry.{rising, falling, expired}
-use Rattle.machine.specs.Machine.{stepOf, eventAt, fireAt, expiredAt, final, accepting}
+use Rattle.machine.specs.Machine.{eventAt, fireAt, expiredAt, final, accepting}
 use Rattle.machine.proofs.Machine.{Premises}
 
 -- M11: "ADD of 4294967295 and 1 is 4294967295; SUB of 3 and 5 is 0"
@@ -145,11 +147,11 @@ F = record {
 }
 
 pub bench-trip : fireAt L F start 0 0 ≡ some (holding 1 500 (1 ∷ replicate 15 0))
-unfolding fireAt stepOf eventAt fire fires leave hold start
+unfolding fireAt stepAt stepsOf eventAt fire fires leave hold start
 bench-trip = refl
 
 pub bench-open : fireAt L F (holding 1 500 (1 ∷ replicate 15 0)) 1 0 ≡ some (holding 2 500 (1 ∷ 1 ∷ replicate 14 0))
-unfolding fireAt stepOf eventAt fire fires leave hold
+unfolding fireAt stepAt stepsOf eventAt fire fires leave hold
 bench-open = refl
 
 pub bench-accepts : accepting F (holding 2 500 (1 ∷ 1 ∷ replicate 14 0)) ≡ true
@@ -158,11 +160,11 @@ bench-accepts = refl
 
 -- a step that the state lacks never fires and is expired
 pub no-second-step : fireAt L F start 0 1 ≡ none
-unfolding fireAt stepOf start
+unfolding fireAt stepAt stepsOf start
 no-second-step = refl
 
 pub no-second-step-expired : expiredAt L F start 1 0 ≡ true
-unfolding expiredAt stepOf start
+unfolding expiredAt stepAt stepsOf start
 no-second-step-expired = refl
 
 -- what the machine's laws need holds of L and F

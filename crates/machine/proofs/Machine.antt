@@ -7,30 +7,25 @@ use mathlib.Core.Option.{Option, none, some}
 use native.Mathlib.Omega.{arith}
 use native.Mathlib.Nat.{le-refl}
 use native.Mathlib.Decide.{decLt}
-use lib.ListN.{length, length-set, getD, set, getElem?, replicate, List·getD-eq-default}
+use lib.ListN.{length, length-set, getD, set, List·getD-eq-default}
 use lib.Seq.{getD-set-same, getD-set-other}
 use lib.Dec.{eqb}
 use borrow.Author.Tests.{eqb-true, eqb-false}
+use Rattle.base.proofs.Lists.{replicate-at}
+use Rattle.formula.proofs.Steps.{all-some}
 use Rattle.base.specs.Lists.{All}
 use Rattle.event_log.specs.Log.{Kind, plain, rising, Log, Event}
-use Rattle.formula.specs.Formula.{Formula, State, Step, Clause, TEST, TESTV, BIND}
+use Rattle.formula.specs.Formula.{Formula, State, ordinary, Step, Clause, TEST, TESTV, BIND}
+use Rattle.formula.specs.Unbound.{stepsOf}
+use Rattle.formula.specs.Lookup.{stepAt}
 use Rattle.runs.specs.Machine.{Laws}
 use Rattle.machine.specs.Configuration.{Config, start, total, Valid}
 use Rattle.machine.specs.Firing.{field, isHeld, hold, bindAll, leave, fires, fire}
 use Rattle.machine.specs.Expiry.{isRising}
-use Rattle.machine.specs.Machine.{stepOf, eventAt, latest, fireBy, fireAt, expiredBy, expiredAt, final, machine}
+use Rattle.machine.specs.Machine.{eventAt, latest, fireBy, fireAt, expiredBy, expiredAt, final, machine}
 use Rattle.machine.proofs.Configurations.{same-equal, equal-same, total-add-one, length-add-one}
 use Rattle.machine.proofs.Binding.{hold-held, hold-new}
 use Rattle.machine.proofs.Expiry.{Grows, stable-step, silent-step}
-
--- an element that a list has keeps what all its elements have
-all-at : {A : Type 0} (P : A → Type 0) (l : List A) (i : ℕ) (a : A) → All P l → getElem? l i ≡ some a → P a
-all-at P [] i a h e = absurd (omega (arith, absent e))
-  where
-    absent : none ≡ some a → _≡_ {A = ℕ} 0 1
-    absent q = cc
-all-at P (x ∷ xs) zero a h e = let q : x ≡ a = cc in rw q at (h .0)
-all-at P (x ∷ xs) (suc i) a h e = all-at P xs i a (h .1) e
 
 all-getD : {A : Type 0} (P : A → Type 0) (l : List A) (i : ℕ) (d : A) → All P l → P d → P (getD l i d)
 all-getD P [] i d h k = k
@@ -41,11 +36,6 @@ all-set : {A : Type 0} (P : A → Type 0) (l : List A) (i : ℕ) (a : A) → All
 all-set P [] i a h k = tt
 all-set P (x ∷ xs) zero a h k = (k, h .1)
 all-set P (x ∷ xs) (suc i) a h k = (h .0, all-set P xs i a (h .1) k)
-
-replicate-at : {A : Type 0} (n i : ℕ) (a : A) → getD (replicate n a) i a ≡ a
-replicate-at zero i a = refl
-replicate-at (suc n) zero a = refl
-replicate-at (suc n) (suc i) a = replicate-at n i a
 
 pub valid-start : (states : ℕ) → 0 < states → Valid states start
 unfolding start
@@ -126,14 +116,14 @@ fire-some c s e d h = go (fires c s e) refl
 -- step k of the configuration's state fired on event n
 pub record FiredAt (log : Log) (formula : Formula) (c : Config) (n k : ℕ) (d : Config) : Type 0 where
   pub step : Step
-  pub found : stepOf formula (c .state) k ≡ some step
+  pub found : stepAt formula (c .state) k ≡ some step
   pub fired : Fired c step (eventAt log n) d
 
 pub fire-at-some : (log : Log) (formula : Formula) (c d : Config) (n k : ℕ) → fireAt log formula c n k ≡ some d → FiredAt log formula c n k d
 unfolding fireAt
-fire-at-some log formula c d n k h = go (stepOf formula (c .state) k) refl
+fire-at-some log formula c d n k h = go (stepAt formula (c .state) k) refl
   where
-    go : (o : Option Step) → stepOf formula (c .state) k ≡ o → FiredAt log formula c n k d
+    go : (o : Option Step) → stepAt formula (c .state) k ≡ o → FiredAt log formula c n k d
     go none q = let h′ : none ≡ some d = rw q at h in let z : _≡_ {A = ℕ} 0 1 = cc in absurd (omega arith)
     go (some s) q = record { step = s; found = q; fired = fire-some c s (eventAt log n) d (rw q at h) }
 
@@ -181,13 +171,9 @@ module _ (log : Log) (formula : Formula) (P : Premises log formula) where
       go : (d : ℕ) → n + d ≡ m → Grows (log .fields) (eventAt log n) (eventAt log m)
       go d e = rw e at (grow-by d n (omega arith))
 
-  target-declared : (s k : ℕ) (t : Step) → stepOf formula s k ≡ some t → t .target < length (formula .states)
-  unfolding stepOf
-  target-declared s k t h = go (getElem? (formula .states) s) refl
-    where
-      go : (o : Option State) → getElem? (formula .states) s ≡ o → t .target < length (formula .states)
-      go none q = let h′ : none ≡ some t = rw q at h in let z : _≡_ {A = ℕ} 0 1 = cc in absurd (omega arith)
-      go (some x) q = all-at (λ (u : Step). u .target < length (formula .states)) (x .steps) k t (all-at (λ (y : State). All (λ (u : Step). u .target < length (formula .states)) (y .steps)) (formula .states) s x (P .targets) q) (rw q at h)
+  target-declared : (s k : ℕ) (t : Step) → stepAt formula s k ≡ some t → t .target < length (formula .states)
+  unfolding stepAt stepsOf
+  target-declared s k t h = all-some (λ (u : Step). u .target < length (formula .states)) (stepsOf formula s) k t h (all-getD (λ (y : State). All (λ (u : Step). u .target < length (formula .states)) (y .steps)) (formula .states) s (record { kind = ordinary; steps = [] }) (P .targets) tt) .0
 
   pub valid-fire : (c d : Config) (n k : ℕ) → Valid (length (formula .states)) c → fireAt log formula c n k ≡ some d → Valid (length (formula .states)) d
   unfolding eventAt
@@ -198,7 +184,7 @@ module _ (log : Log) (formula : Formula) (P : Premises log formula) where
   -- a step expired after n is expired after every later event
   pub stable : (c : Config) (k n m : ℕ) → Valid (length (formula .states)) c → n ≤ m → m < length (log .events) → expiredAt log formula c k n ≡ true → expiredAt log formula c k m ≡ true
   unfolding expiredAt latest
-  stable c k n m v h j e = go (stepOf formula (c .state) k) e
+  stable c k n m v h j e = go (stepAt formula (c .state) k) e
     where
       go : (o : Option Step) → expiredBy log o c (latest log n) ≡ true → expiredBy log o c (latest log m) ≡ true
       go none q = refl
@@ -207,7 +193,7 @@ module _ (log : Log) (formula : Formula) (P : Premises log formula) where
   -- a step expired after n fires on no later event
   pub silent : (c : Config) (k n m : ℕ) → Valid (length (formula .states)) c → n < m → m < length (log .events) → expiredAt log formula c k n ≡ true → fireAt log formula c m k ≡ none
   unfolding expiredAt fireAt
-  silent c k n m v h j e = go (stepOf formula (c .state) k) e
+  silent c k n m v h j e = go (stepAt formula (c .state) k) e
     where
       go : (o : Option Step) → expiredBy log o c (latest log n) ≡ true → fireBy o c (eventAt log m) ≡ none
       go none q = refl

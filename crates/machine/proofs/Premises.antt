@@ -7,12 +7,12 @@ use lib.ListN.{length, getElem?}
 use Rattle.base.specs.Lists.{All}
 use Rattle.event_log.specs.Log.{Log}
 use Rattle.event_log.specs.Correct as LogCorrect
-use Rattle.formula.specs.Formula.{Formula, State, StateKind, ordinary, committed, accept, reject, Step}
+use Rattle.formula.specs.Formula.{Formula, State, Step}
 use Rattle.formula.specs.Encode.{TIED, CLAUSE, guardCommands, stepCommands, stateCommands, commands}
 use Rattle.formula.specs.Correct as FormulaCorrect
 use Rattle.formula.proofs.Basics.{all-right, all-left}
 use Rattle.machine.specs.Configuration.{start}
-use Rattle.machine.specs.Machine.{kindIs, isFinal, final, machine}
+use Rattle.machine.specs.Machine.{kindIs, final, machine}
 use Rattle.machine.proofs.Machine.{Premises, laws}
 use Rattle.runs.specs.Machine.{Laws}
 
@@ -30,17 +30,11 @@ targets-declared fields states (x ∷ xs) h =
     (steps-declared fields states (x .steps) (all-left (FormulaCorrect.Exists fields states) (flatMap stepCommands (x .steps)) (flatMap stateCommands xs) (h .1)), targets-declared fields states xs (all-right (FormulaCorrect.Exists fields states) (flatMap stepCommands (x .steps)) (flatMap stateCommands xs) (h .1)))
 
 -- no dead start
-open-kind : (k : StateKind) → FormulaCorrect.final k ≡ false → isFinal k ≡ false
-open-kind ordinary h = refl
-open-kind committed h = refl
-open-kind accept h = h
-open-kind reject h = h
-
-open-first : (xs : List State) → FormulaCorrect.deadStart xs ≡ false → kindIs isFinal (getElem? xs 0) ≡ false
+open-first : (xs : List State) → FormulaCorrect.deadStart xs ≡ false → kindIs FormulaCorrect.isFinal (getElem? xs 0) ≡ false
 open-first [] h = refl
-open-first (x ∷ xs) h = open-kind (x .kind) h
+open-first (x ∷ xs) h = h
 
-module _ (g : Log) (fm : Formula) (log : LogCorrect.Correct g) (formula : FormulaCorrect.Correct (g .fields) fm) where
+module _ (g : Log) (fm : Formula) (log : LogCorrect.Correct g) (formula : FormulaCorrect.Correct (length (g .fields)) fm) where
   open-start : final fm start ≡ false
   unfolding final start
   open-start = open-first (fm .states) (formula .start)

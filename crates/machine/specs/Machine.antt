@@ -6,19 +6,12 @@ use mathlib.Core.Option.{Option, none, some}
 use lib.ListN.{length, getD, getElem?}
 use Rattle.event_log.specs.Log.{Log, Event}
 use Rattle.formula.specs.Formula.{Formula, State, StateKind, ordinary, committed as committedKind, accept, reject, Step}
+use Rattle.formula.specs.Correct.{isFinal}
+use Rattle.formula.specs.Lookup.{stepAt}
 use Rattle.runs.specs.Machine.{Machine}
 use Rattle.machine.specs.Configuration.{Config, same, start}
 use Rattle.machine.specs.Firing.{fire}
 use Rattle.machine.specs.Expiry.{expired}
-
--- step k of a state
-abbrev pub stepIn : Option State → ℕ → Option Step
-stepIn none k = none
-stepIn (some s) k = getElem? (s .steps) k
-
--- step k of the configuration's state, if there is one
-unfoldable pub stepOf : Formula → ℕ → ℕ → Option Step
-stepOf formula s k = stepIn (getElem? (formula .states) s) k
 
 -- event n
 unfoldable pub eventAt : Log → ℕ → Event
@@ -34,7 +27,7 @@ fireBy (some s) c e = fire c s e
 
 -- what step k leaves on event n, if it fires
 unfoldable pub fireAt : Log → Formula → Config → ℕ → ℕ → Option Config
-fireAt log formula c n k = fireBy (stepOf formula (c .state) k) c (eventAt log n)
+fireAt log formula c n k = fireBy (stepAt formula (c .state) k) c (eventAt log n)
 
 abbrev pub expiredBy : Log → Option Step → Config → Event → Bool
 expiredBy log none c x = true
@@ -42,19 +35,13 @@ expiredBy log (some s) c x = expired (log .fields) c s x
 
 -- step k is expired (the paper's hopeless) after event n; so is a step that the state lacks
 unfoldable pub expiredAt : Log → Formula → Config → ℕ → ℕ → Bool
-expiredAt log formula c k n = expiredBy log (stepOf formula (c .state) k) c (latest log n)
+expiredAt log formula c k n = expiredBy log (stepAt formula (c .state) k) c (latest log n)
 
 abbrev pub isCommitted : StateKind → Bool
 isCommitted ordinary = false
 isCommitted committedKind = true
 isCommitted accept = false
 isCommitted reject = false
-
-abbrev pub isFinal : StateKind → Bool
-isFinal ordinary = false
-isFinal committedKind = false
-isFinal accept = true
-isFinal reject = true
 
 abbrev pub isAccept : StateKind → Bool
 isAccept ordinary = false

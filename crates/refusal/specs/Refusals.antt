@@ -1,16 +1,16 @@
 -- "An answer names the file (1 log, 2 formula, 3 the call), the number and the place": the table of refusals, by cases.
 use Prim.Native.Nat.{ℕ}
+use mathlib.Core.Path.{_≡_}
 use Rattle.refusal.specs.declared.File.{File}
-use Rattle.refusal.specs.declared.File.the-variants.{Log, Formula, Call}
+use Rattle.refusal.specs.declared.File.the-variants.{Log, Formula}
 use Rattle.refusal.specs.declared.Refusal.{Refusal}
 use Rattle.refusal.specs.declared.Refusal.the-variants.{CutShort, Foreign, Value, Surplus, Leftover, StepBack, DeadStart, Unbound, Outside, Short, Crowded}
 use Rattle.refusal.specs.declared.Report.{Report}
 
--- "the file (1 log, 2 formula, 3 the call)"
+-- "the file (1 log, 2 formula": a refusal of the call names no file, and its line says 3
 abbrev pub fileNumber : File → ℕ
 fileNumber Log = 1
 fileNumber Formula = 2
-fileNumber Call = 3
 
 -- a line of the table: file, number and place
 abbrev pub line : ℕ → ℕ → ℕ → Report
@@ -29,3 +29,7 @@ reportOf (Unbound p) = line 2 8 p
 reportOf (Outside s) = line 3 9 s
 reportOf (Short n) = line 3 10 n
 reportOf (Crowded p) = line 3 11 p
+
+-- any refusal but 11: a check refuses, and nothing has run
+abbrev pub NotCrowded : Refusal → Type 0
+NotCrowded why = (n : ℕ) → why ≡ Crowded n → ⊥

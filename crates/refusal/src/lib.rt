@@ -2,11 +2,10 @@
 ghost use mathlib.Core.Path.{_≡_};
 ghost use Rattle.refusal.specs.Refusals.{reportOf};
 
-// What a refusal speaks of.
+// The file that a refusal speaks of; 9, 10 and 11 speak of the call, file 3.
 pub enum File {
     Log,
     Formula,
-    Call,
 }
 
 // One case for each refusal, in the order of their numbers. A place in a file is the offset of a command's first byte.
@@ -49,7 +48,6 @@ fn file_number(f: File) -> usize
     match f {
         File::Log => 1,
         File::Formula => 2,
-        File::Call => 3,
     }
 }
 

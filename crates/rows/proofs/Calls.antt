@@ -17,6 +17,7 @@ use Rattle.event_log.specs.declared.Verdict.the-variants as LogVerdict
 use Rattle.event_log.specs.declared.LogReading.{LogReading}
 use Rattle.event_log.specs.Read as LogRead
 use Rattle.event_log.proofs.Accepted.{accepted-is-encoding}
+use Rattle.event_log.proofs.Answers.{LogTaken, log-refused, log-taken}
 use Rattle.formula.specs.Formula.{Formula}
 use Rattle.formula.specs.Lookup.{isTied, tiedMask}
 use Rattle.formula.proofs.Ties.{mask-bit}
@@ -30,30 +31,41 @@ use Rattle.analysis.specs.declared.Outcome.the-variants.{Refused}
 use Rattle.formula_reader.specs.declared.Verdict.the-variants as FormulaVerdict
 use Rattle.formula_reader.specs.declared.FormulaReading.{FormulaReading}
 use Rattle.formula_reader.specs.Answer.{answerOf as formulaAnswer, kindsOf}
-use Rattle.engine.proofs.Calls.{LogTaken, FormulaTaken, log-refused, log-taken, formula-refused, formula-taken}
+use Rattle.formula_reader.proofs.Answers.{FormulaTaken, formula-refused, formula-taken}
 use Rattle.analysis.specs.Rows.{rowsFrom}
-use Rattle.analysis.specs.Analysis.{Analysed, writtenInto, checked, withFormula, analysis}
-use Rattle.rows.specs.Starts.{bitsOf, Given, wordsPass, passesFormula, passes, Leaves}
+use Rattle.analysis.specs.Analysis.{Analysed, refusal, writtenInto, checked, withFormula, analysis}
+use Rattle.analysis.specs.Call.{Leaves, Analyses}
+use Rattle.analysis.proofs.Demand.{only-crowded}
+use Rattle.rows.specs.Starts.{bitsOf, Given}
 use Rattle.rows.proofs.Filling.{bits-length, bits-at}
+
+-- a call that is refused before it runs leaves every lent word as it was
+left-alone : {work rows : List ℕ} {why : Refusal} → Leaves (refusal why rows) work work rows (Refused why)
+left-alone = record { outcome = refl; rows = refl; untouched = λ why v u. refl; number = refl }
 
 -- refusal 10 for work words, 10 for rows, and no refusal
 module _ (g : Log) (fm : Formula) (work rows : List ℕ) where
-  pub short-work : length work < 192 → Leaves (checked g fm (length work) rows) (wordsPass (length work) (length rows) (length (g .events))) work work rows (Refused (Short 192))
+  pub short-work : length work < 192 → Leaves (checked g fm (length work) rows) work work rows (Refused (Short 192))
   unfolding checked
-  short-work h = rw (lt-ltb (length work) 192 h) (record { outcome = refl; rows = refl; work = λ e. refl })
+  short-work h = rw (lt-ltb (length work) 192 h) left-alone
 
   pub short-rows : (events : ℕ) → events ≡ length (g .events) → 192 ≤ length work → length rows < 12 * events
-      → Leaves (checked g fm (length work) rows) (wordsPass (length work) (length rows) (length (g .events))) work work rows (Refused (Short (12 * events)))
+      → Leaves (checked g fm (length work) rows) work work rows (Refused (Short (12 * events)))
   unfolding checked
-  short-rows events e h k = rw (e, le-ltb (length work) 192 h, lt-ltb (length rows) (12 * length (g .events)) (rw e at k)) (record { outcome = refl; rows = refl; work = λ q. refl })
+  short-rows events e h k = rw (e, le-ltb (length work) 192 h, lt-ltb (length rows) (12 * length (g .events)) (rw e at k)) left-alone
 
   pub enough : (events slots : ℕ) (work-after after : List ℕ) (r : Outcome) → events ≡ length (g .events) → 192 ≤ length work → 12 * events ≤ length rows → slots ≡ slotsOf (length work)
-      → _≡_ {A = Analysed} (record { outcome = r; rows = after }) (writtenInto (rowsFrom g fm (search (machine g fm) slots) (length (g .events)) 0 []) rows)
-      → Leaves (checked g fm (length work) rows) (wordsPass (length work) (length rows) (length (g .events))) work work-after after r
+      → length work-after ≡ length work → _≡_ {A = Analysed} (record { outcome = r; rows = after }) (writtenInto (rowsFrom g fm (search (machine g fm) slots) (length (g .events)) 0 []) rows)
+      → Leaves (checked g fm (length work) rows) work work-after after r
   unfolding checked
-  enough events slots work-after after r e h k s a =
+  enough events slots work-after after r e h k s same a =
       rw (le-ltb (length work) 192 h, le-ltb (length rows) (12 * length (g .events)) (rw e at k), ← s)
-      (record { outcome = ap (λ (x : Analysed). x .outcome) a; rows = ap (λ (x : Analysed). x .rows) a; work = λ q. let z : _≡_ {A = ℕ} 0 1 = cc in absurd (omega arith) })
+      (record {
+        outcome = ap (λ (x : Analysed). x .outcome) a;
+        rows = ap (λ (x : Analysed). x .rows) a;
+        untouched = λ why v u. absurd (only-crowded (rowsFrom g fm (search (machine g fm) slots) (length (g .events)) 0 []) rows why (ap (λ (x : Analysed). x .outcome) (sym a) ∙ v) u);
+        number = same;
+      })
 
 -- the bit of a variable says whether it is tied
 bit-back : (b : Bool) → eqb (cond b 1 0) 1 ≡ b
@@ -64,23 +76,23 @@ tie-at : (fm : Formula) (v : ℕ) → v < 8 → getD (bitsOf 8 (tiedMask fm)) v 
 tie-at fm v h = bits-at 8 v (tiedMask fm) h ∙ rw (mask-bit fm v h) (bit-back (isTied v (fm .tied)))
 
 -- the formula is refused
-pub refused-formula : (g : Log) (f work rows : List ℕ) (r : FormulaReading) (why : Refusal) → r ≡ formulaAnswer (FormulaRead.readFormula (g .fields) f) → r .verdict ≡ FormulaVerdict.Refused why
-    → Leaves (withFormula g (FormulaRead.readFormula (g .fields) f) (length work) rows) (passesFormula g (FormulaRead.readFormula (g .fields) f) (length work) (length rows)) work work rows (Refused why)
+pub refused-formula : (g : Log) (f work rows : List ℕ) (r : FormulaReading) (why : Refusal) → r ≡ formulaAnswer (FormulaRead.readFormula (length (g .fields)) f) → r .verdict ≡ FormulaVerdict.Refused why
+    → Leaves (withFormula g (FormulaRead.readFormula (length (g .fields)) f) (length work) rows) work work rows (Refused why)
 refused-formula g f work rows r why e h =
-    let x = FormulaRead.readFormula (g .fields) f in
+    let x = FormulaRead.readFormula (length (g .fields)) f in
     let q : x ≡ FormulaRead.refused why = formula-refused x why (ap (λ (a : FormulaReading). a .verdict) (sym e) ∙ h) in
-    rw q (record { outcome = refl; rows = refl; work = λ p. refl })
+    rw q left-alone
 
 -- the formula is accepted
-module _ (g : Log) (l f : List ℕ) (log : LogReading) (r : FormulaReading) (bytes : Bytes f) (read : log ≡ LogRead.answerOf (LogRead.accepted g)) (here : l ≡ LogEncode.encode g) (ok : LogCorrect.Correct g) (e : r ≡ formulaAnswer (FormulaRead.readFormula (g .fields) f)) (h : r .verdict ≡ FormulaVerdict.Accepted) (tied : List Bool) (marks : tied ≡ bitsOf 8 (r .tied)) where
-  taken : FormulaTaken (FormulaRead.readFormula (g .fields) f)
-  taken = formula-taken (FormulaRead.readFormula (g .fields) f) (ap (λ (a : FormulaReading). a .verdict) (sym e) ∙ h)
+module _ (g : Log) (l f : List ℕ) (log : LogReading) (r : FormulaReading) (bytes : Bytes f) (read : log ≡ LogRead.answerOf (LogRead.accepted g)) (here : l ≡ LogEncode.encode g) (ok : LogCorrect.Correct g) (e : r ≡ formulaAnswer (FormulaRead.readFormula (length (g .fields)) f)) (h : r .verdict ≡ FormulaVerdict.Accepted) (tied : List Bool) (marks : tied ≡ bitsOf 8 (r .tied)) where
+  taken : FormulaTaken (FormulaRead.readFormula (length (g .fields)) f)
+  taken = formula-taken (FormulaRead.readFormula (length (g .fields)) f) (ap (λ (a : FormulaReading). a .verdict) (sym e) ∙ h)
 
   given : Given g (taken .formula) l log f (r .table) (r .kinds) tied
   unfolding formulaAnswer kindsOf LogRead.answerOf
   given =
       let a : r ≡ formulaAnswer (FormulaRead.accepted (taken .formula)) = e ∙ ap formulaAnswer (taken .is) in
-      let c = accepted-correct (g .fields) f (taken .formula) bytes (taken .is) in
+      let c = accepted-correct (length (g .fields)) f (taken .formula) bytes (taken .is) in
       record {
         setting = record { log = ok; formula = c .1; bytes = c .0; table-is = ap (λ (x : FormulaReading). x .table) a; kinds-are = ap (λ (x : FormulaReading). x .kinds) a; rising-are = ap (λ (x : LogReading). x .rises) read };
         log-bytes = here;
@@ -92,20 +104,20 @@ module _ (g : Log) (l f : List ℕ) (log : LogReading) (r : FormulaReading) (byt
       }
 
   pub accepted-formula : (work work-after rows rows-after : List ℕ) (o : Outcome)
-      → ((fm : Formula) → Given g fm l log f (r .table) (r .kinds) tied → Leaves (checked g fm (length work) rows) (wordsPass (length work) (length rows) (length (g .events))) work work-after rows-after o)
-      → Leaves (withFormula g (FormulaRead.readFormula (g .fields) f) (length work) rows) (passesFormula g (FormulaRead.readFormula (g .fields) f) (length work) (length rows)) work work-after rows-after o
+      → ((fm : Formula) → Given g fm l log f (r .table) (r .kinds) tied → Leaves (checked g fm (length work) rows) work work-after rows-after o)
+      → Leaves (withFormula g (FormulaRead.readFormula (length (g .fields)) f) (length work) rows) work work-after rows-after o
   accepted-formula work work-after rows rows-after o go = rw (taken .is) (go (taken .formula) given)
 
 -- the log is refused
-pub refused-log : (l f work rows : List ℕ) (log : LogReading) (why : Refusal) → log ≡ LogRead.answerOf (LogRead.readLog l) → log .verdict ≡ LogVerdict.Refused why
-    → Leaves (analysis l f (length work) rows) (passes l f (length work) (length rows)) work work rows (Refused why)
-unfolding analysis passes
+pub refused-log : (l f work rows : List ℕ) (log : LogReading) (why : Refusal) → LogRead.ReadsLog l log → log .verdict ≡ LogVerdict.Refused why
+    → Analyses l f work work rows rows (Refused why)
+unfolding analysis
 refused-log l f work rows log why e h =
     let q : LogRead.readLog l ≡ LogRead.refused why = log-refused (LogRead.readLog l) why (ap (λ (a : LogReading). a .verdict) (sym e) ∙ h) in
-    rw q (record { outcome = refl; rows = refl; work = λ p. refl })
+    rw q left-alone
 
 -- the log is accepted
-module _ (l f : List ℕ) (log : LogReading) (bytes : Bytes l) (e : log ≡ LogRead.answerOf (LogRead.readLog l)) (h : log .verdict ≡ LogVerdict.Accepted) where
+module _ (l f : List ℕ) (log : LogReading) (bytes : Bytes l) (e : LogRead.ReadsLog l log) (h : log .verdict ≡ LogVerdict.Accepted) where
   read : LogTaken (LogRead.readLog l)
   read = log-taken (LogRead.readLog l) (ap (λ (a : LogReading). a .verdict) (sym e) ∙ h)
 
@@ -120,7 +132,7 @@ module _ (l f : List ℕ) (log : LogReading) (bytes : Bytes l) (e : log ≡ LogR
   few-events = let q : log .events ≡ length (read .log .events) = ap (λ (x : LogReading). x .events) same in omega (arith, encoding .1 .most-events)
 
   pub accepted-log : (work work-after rows rows-after : List ℕ) (o : Outcome)
-      → ((g : Log) → log ≡ LogRead.answerOf (LogRead.accepted g) → l ≡ LogEncode.encode g → LogCorrect.Correct g → Leaves (withFormula g (FormulaRead.readFormula (g .fields) f) (length work) rows) (passesFormula g (FormulaRead.readFormula (g .fields) f) (length work) (length rows)) work work-after rows-after o)
-      → Leaves (analysis l f (length work) rows) (passes l f (length work) (length rows)) work work-after rows-after o
-  unfolding analysis passes
+      → ((g : Log) → log ≡ LogRead.answerOf (LogRead.accepted g) → l ≡ LogEncode.encode g → LogCorrect.Correct g → Leaves (withFormula g (FormulaRead.readFormula (length (g .fields)) f) (length work) rows) work work-after rows-after o)
+      → Analyses l f work work-after rows rows-after o
+  unfolding analysis
   accepted-log work work-after rows rows-after o go = rw (read .is) (go (read .log) same (encoding .0) (encoding .1))

@@ -24,7 +24,7 @@ tied-variables : (fields states : ℕ) (ws : List ℕ) → All (Exists fields st
 tied-variables fields states [] h = tt
 tied-variables fields states (w ∷ ws) h = (h .0, tied-variables fields states ws (h .1))
 
-pub tied-exist : (g : Log) (fm : Formula) → FormulaCorrect.Correct (g .fields) fm → All (λ v. v < 8) (fm .tied)
+pub tied-exist : (g : Log) (fm : Formula) → FormulaCorrect.Correct (length (g .fields)) fm → All (λ v. v < 8) (fm .tied)
 unfolding commands
 tied-exist g fm ok = tied-variables (length (g .fields)) (length (fm .states)) (fm .tied) (all-left (Exists (length (g .fields)) (length (fm .states))) (map TIED (fm .tied)) (flatMap stateCommands (fm .states)) (ok .values))
 
@@ -39,7 +39,7 @@ Fitting g fm (found c t width) = Bounded (length t) (length (c .held)) (length (
 Fitting g fm (absent width) = Unit {0}
 Fitting g fm (crowded n) = Unit {0}
 
-module _ (g : Log) (fm : Formula) (log : LogCorrect.Correct g) (formula : FormulaCorrect.Correct (g .fields) fm) where
+module _ (g : Log) (fm : Formula) (log : LogCorrect.Correct g) (formula : FormulaCorrect.Correct (length (g .fields)) fm) where
   demand-fits : (slots i : ℕ) (a : Answer (machine g fm)) → Demand (machine g fm) slots i a → Fitting g fm a
   demand-fits slots i (found c t width) d =
       let v : Valid (length (fm .states)) c = ends-valid g fm (premises g fm log formula) c i t (d .run .path .follows) in

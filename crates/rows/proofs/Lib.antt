@@ -6,4 +6,3 @@ pub mod Subsuming
 pub mod Fitting
 pub mod Turns
 pub mod Calls
-pub mod Entry

@@ -1,22 +1,15 @@
 -- Subsumption over a list of runs that grows by a row, and the verdict.
 use Prim.Native.Nat.{ℕ, zero, suc, _+_, _-_, _*_, _<_, _≤_}
 use mathlib.Core.Path.{_≡_, refl, ap, sym, _∙_}
-use mathlib.Core.Bool.{Bool, true, false, cond, _||_}
+use mathlib.Core.Bool.{Bool, true, false, cond, _||_, or-false, or-assoc}
 use mathlib.Core.List.{List, [], _∷_, _++_}
 use native.Mathlib.Numerals.{add-one}
 use native.Mathlib.Omega.{arith}
 use borrow.Author.Tests.{le-leb, lt-leb, eq-eqb, ne-eqb}
 use lib.ListN.{getD, take, drop}
+use Rattle.base.proofs.Tests.{or-right}
 use Rattle.analysis.specs.Rows.{NamedRun, tiedAlike, subsumes, subsumed, verdict}
 use Rattle.rows.specs.Starts.{runIn, runIf, runsIn}
-
-or-assoc : (a b c : Bool) → ((a || b) || c) ≡ (a || (b || c))
-or-assoc true b c = refl
-or-assoc false b c = refl
-
-or-false : (b : Bool) → (b || false) ≡ b
-or-false true = refl
-or-false false = refl
 
 module _ (tied : List ℕ) (start : ℕ) (this : NamedRun) where
   subsumed-append : (xs ys : List NamedRun) → subsumed tied start this (xs ++ ys) ≡ (subsumed tied start this xs || subsumed tied start this ys)
@@ -46,10 +39,6 @@ module _ (tied : List ℕ) (start : ℕ) (this : NamedRun) where
   unfolding runsIn
   not-yet rows ws k p e f = rw (add-one k, ← p, subsumed-append (runsIn k rows) (runIf ws), e, f)
 
-  or-true : (a b : Bool) → b ≡ true → (a || b) ≡ true
-  or-true true b e = refl
-  or-true false b e = e
-
   stays : (rows : List ℕ) (k n : ℕ) → subsumed tied start this (runsIn k rows) ≡ true → subsumed tied start this (runsIn (k + n) rows) ≡ true
   unfolding runsIn
   stays rows k zero e = let q : k + 0 ≡ k = omega arith in rw q e
@@ -61,7 +50,7 @@ module _ (tied : List ℕ) (start : ℕ) (this : NamedRun) where
   unfolding runsIn
   hit rows ws k m h p e =
       let q : suc k + (m - suc k) ≡ m = omega arith in
-      let one : subsumed tied start this (runsIn (suc k) rows) ≡ true = rw (← p, subsumed-append (runsIn k rows) (runIf ws)) (or-true (subsumed tied start this (runsIn k rows)) (subsumed tied start this (runIf ws)) e) in
+      let one : subsumed tied start this (runsIn (suc k) rows) ≡ true = rw (← p, subsumed-append (runsIn k rows) (runIf ws)) (or-right (subsumed tied start this (runsIn k rows)) (subsumed tied start this (runIf ws)) e) in
       rw q at (stays rows (suc k) (m - suc k) one)
 
   -- the verdict: rejected, subsumed, alert

@@ -6,10 +6,8 @@ use mathlib.Core.List.{List, [], _∷_, _++_, append-nil}
 use native.Mathlib.Numerals.{add-one}
 use native.Mathlib.Nat.{zero-add}
 use native.Mathlib.Omega.{arith}
-use lib.ListN.{length, getD, take, drop}
+use lib.ListN.{length, take, drop}
 use lib.Seq.{drop-drop}
-use Rattle.base.specs.Lists.{pad}
-use Rattle.base.proofs.Lists.{getD-pad}
 use Rattle.refusal.specs.declared.Refusal.the-variants.{Crowded}
 use Rattle.event_log.specs.Log.{Log}
 use Rattle.event_log.specs.Event.{loadedAt, eventPlace}
@@ -17,8 +15,7 @@ use Rattle.event_log.specs.declared.Loaded.{Loaded}
 use Rattle.event_log.specs.declared.LogReading.{LogReading}
 use Rattle.event_log.proofs.Places.{event-loaded}
 use Rattle.formula.specs.Formula.{Formula}
-use Rattle.runs.specs.Run.{Entry, Trail, lastOr, last}
-use Rattle.runs.specs.Order.{events}
+use Rattle.runs.specs.Run.{Trail}
 use Rattle.runs.specs.Search.{Answer, found, absent, crowded, search}
 use Rattle.machine.specs.Configuration.{Config}
 use Rattle.machine.specs.Machine.{machine, accepting}
@@ -29,6 +26,7 @@ use Rattle.search.specs.Search.{answerOf}
 use Rattle.analysis.specs.declared.Outcome.the-variants.{Done, Refused as RefusedOutcome}
 use Rattle.analysis.specs.Rows.{NamedRun, named, tiedAlike, verdict, noneRow, row, Written, all, upto, before, one, rowsFrom}
 use Rattle.analysis.specs.Analysis.{Analysed, writtenInto}
+use Rattle.analysis.proofs.Last.{last-is}
 use Rattle.rows.specs.Starts.{variables, runIf, runsIn, runOf, rowBy, isRefused, Turn, turnOf, resumed, Given}
 use Rattle.rows.proofs.Ties.{tied-same}
 use Rattle.rows.proofs.Subsuming.{verdict-same}
@@ -42,25 +40,13 @@ part-back l ys ws a e n h q =
     let m : a + (e - a) ≡ a + length ws = omega arith in
     rw q (ap (λ t. take a l ++ (ws ++ t)) (drop-drop (e - a) a l ∙ ap (λ i. drop i l) m))
 
--- the last event of a trail stands last among its events
-events-last : (x : Entry) (t : Trail) → getD (events (x ∷ t)) (length t) 0 ≡ lastOr (x .event) t
-events-last x [] = refl
-events-last x (y ∷ t) = events-last y t
-
-last-is : (t : Trail) → length t ≤ 32 → getD (pad 32 0 (events t)) (min (length t) 32 - 1) 0 ≡ last t
-unfolding pad
-last-is [] h = refl
-last-is (x ∷ t) h =
-    let q : min (suc (length t)) 32 - 1 ≡ length t = omega arith in
-    ap (λ i. getD (pad 32 0 (events (x ∷ t))) i 0) q ∙ getD-pad 32 0 (events (x ∷ t)) (length t) (omega arith) ∙ events-last x t
-
 module _ (g : Log) (fm : Formula) where
   -- the run of a search's answer is the named one
   answer-run : (c : Config) (t : Trail) (width : ℕ) (b : Bool) → length t ≤ 32 → accepting fm c ≡ b → runOf (answerOf g fm (found c t width)) b ≡ named fm c t
   unfolding named
   answer-run c t width b h e =
       let q : min (length t) 32 ≡ length t = omega arith in
-      rw (e, last-is t h, q)
+      rw (e, q, last-is t h)
 
   answer-row : (ws : List ℕ) (start : ℕ) (earlier : List NamedRun) (c : Config) (t : Trail) (width : ℕ) → length t ≤ 32
       → rowBy ws start earlier (answerOf g fm (found c t width)) (cond (accepting fm c) Accept Reject) ≡ row (verdict ws start (named fm c t) earlier) (named fm c t)

@@ -1,10 +1,10 @@
 -- Rows read back as the runs that they hold, and one start over rows already written.
 use Prim.Native.Nat.{ℕ, zero, suc, _-_, _*_, _/_, _%_, _<_, min}
 use mathlib.Core.Path.{_≡_}
-use mathlib.Core.Bool.{Bool, true, false, cond, not, _&&_}
+use mathlib.Core.Bool.{Bool, true, false, cond, not}
 use mathlib.Core.List.{List, [], _∷_, _++_}
 use lib.ListN.{length, getD, take, drop}
-use lib.Dec.{ltb, eqb}
+use lib.Dec.{eqb}
 use Rattle.refusal.specs.declared.Refusal.the-variants.{Crowded}
 use Rattle.event_log.specs.Log.{Log}
 use Rattle.event_log.specs.Encode as LogEncode
@@ -27,6 +27,7 @@ use Rattle.analysis.specs.declared.Outcome.{Outcome}
 use Rattle.analysis.specs.declared.Outcome.the-variants.{Done, Refused as RefusedOutcome}
 use Rattle.analysis.specs.Rows.{NamedRun, named, alike, verdict, noneRow, row, Written, all, upto, rowsFrom}
 use Rattle.analysis.specs.Analysis.{Analysed, writtenInto, checked, withFormula}
+use Rattle.analysis.specs.Call.{Leaves}
 
 -- the struct of a named run, as the definition has it
 abbrev pub namedOf : RowRun → NamedRun
@@ -118,35 +119,12 @@ AllStarts l log f table kinds tied slots before after r =
     (g : Log) (fm : Formula) → Given g fm l log f table kinds tied
     → _≡_ {A = Analysed} (record { outcome = r; rows = after }) (writtenInto (rowsFrom g fm (search (machine g fm) slots) (length (g .events)) 0 []) before)
 
--- the call passes all its checks: the log, the formula, the work words, the row words
-abbrev pub wordsPass : ℕ → ℕ → ℕ → Bool
-wordsPass words rows events = not (ltb words 192) && not (ltb rows (12 * events))
-
-abbrev pub passesFormula : Log → FormulaRead.Reading → ℕ → ℕ → Bool
-passesFormula g (FormulaRead.accepted fm) words rows = wordsPass words rows (length (g .events))
-passesFormula g (FormulaRead.refused r) words rows = false
-
-abbrev pub passesLog : LogRead.Reading → List ℕ → ℕ → ℕ → Bool
-passesLog (LogRead.accepted g) f words rows = passesFormula g (FormulaRead.readFormula (g .fields) f) words rows
-passesLog (LogRead.refused r) f words rows = false
-
-unfoldable pub passes : List ℕ → List ℕ → ℕ → ℕ → Bool
-passes l f words rows = passesLog (LogRead.readLog l) f words rows
-
--- What a call leaves: its answer, every lent row word, and, where a check refuses it, the lent work words as they were. "Left open
--- are the work words after a call that passed its checks."
-pub record Leaves (a : Analysed) (pass : Bool) (work-before work-after rows-after : List ℕ) (r : Outcome) : Type 0 where
-  pub outcome : r ≡ a .outcome
-  pub rows : rows-after ≡ a .rows
-  pub work : pass ≡ false → work-after ≡ work-before
-
 -- what is left behind the formula's reader, and behind the log's
 abbrev pub WithFormula : List ℕ → LogReading → List ℕ → List ℕ → List ℕ → List Bool → List ℕ → List ℕ → List ℕ → List ℕ → Outcome → Type 0
 WithFormula l log f table kinds tied work work-after rows rows-after r =
-    (g : Log) (fm : Formula) → Given g fm l log f table kinds tied
-    → Leaves (checked g fm (length work) rows) (wordsPass (length work) (length rows) (length (g .events))) work work-after rows-after r
+    (g : Log) (fm : Formula) → Given g fm l log f table kinds tied → Leaves (checked g fm (length work) rows) work work-after rows-after r
 
 abbrev pub WithLog : List ℕ → List ℕ → LogReading → List ℕ → List ℕ → List ℕ → List ℕ → Outcome → Type 0
 WithLog l f log work work-after rows rows-after r =
     (g : Log) → log ≡ LogRead.answerOf (LogRead.accepted g) → l ≡ LogEncode.encode g → LogCorrect.Correct g
-    → Leaves (withFormula g (FormulaRead.readFormula (g .fields) f) (length work) rows) (passesFormula g (FormulaRead.readFormula (g .fields) f) (length work) (length rows)) work work-after rows-after r
+    → Leaves (withFormula g (FormulaRead.readFormula (length (g .fields)) f) (length work) rows) work work-after rows-after r

@@ -5,12 +5,12 @@ use refusal::Refusal;
 use search::SearchAnswer;
 use search::Verdict;
 ghost use mathlib.Core.Path.{_≡_};
-ghost use Prim.Native.Nat.{_+_, _-_, _*_, _≤_, _<_, min};
+ghost use Prim.Native.Nat.{_+_, _-_, _*_, _≤_, _<_};
 ghost use lib.ListN.{length, getD, take, drop};
 ghost use Rattle.analysis.specs.Rows.{tiedAlike, row, subsumed, verdict};
-ghost use Rattle.analysis.specs.Analysis.{analysis};
+ghost use Rattle.analysis.specs.Call.{Analyses};
 ghost use Rattle.rows.specs.Starts.{namedOf, variables, agrees, bitsOf, runIn, runIf, runsIn, runOf, rowBy, isRefused};
-ghost use Rattle.rows.specs.Starts.{OneStart, AllStarts, WithFormula, WithLog, Leaves, passes};
+ghost use Rattle.rows.specs.Starts.{OneStart, AllStarts, WithFormula, WithLog};
 
 // A start's named run, as its row holds it.
 struct RowRun {
@@ -172,13 +172,6 @@ fn row_of(rows: &[u32], tied: [bool; 8], start: usize, this: RowRun) -> [u32; 12
     ]
 }
 
-// A number of steps, at most 32.
-fn capped(steps: usize) -> usize
-    ensures { λ r. ⌜ r ≡ min steps 32 ⌝ }
-{
-    if steps <= 32 { steps } else { 32 }
-}
-
 // The last of so many events.
 fn last_of(events: [u32; 32], steps: usize) -> u32
     requires { ⌜ steps ≤ 32 ⌝ }
@@ -194,7 +187,7 @@ fn last_of(events: [u32; 32], steps: usize) -> u32
 fn run_of(a: SearchAnswer, accepts: bool) -> RowRun
     ensures { λ r. ⌜ namedOf r ≡ runOf a accepts ⌝ }
 {
-    let steps = capped(a.steps);
+    let steps = base::lower(a.steps, 32);
     let events = a.events;
     let last = last_of(events, steps);
     let held = a.held;
@@ -348,7 +341,7 @@ fn with_log(l: &[u8], f: &[u8], log: LogReading, work: &mut [u32], rows: &mut [u
 
 // Analyses a log by a formula: a row for every event, exactly as the definition gives them.
 pub fn analyse(l: &[u8], f: &[u8], work: &mut [u32], rows: &mut [u32]) -> Outcome
-    ensures { λ r. ⌜ Leaves (analysis (now (l .entry)) (now (f .entry)) (length (now (work .entry))) (now (rows .entry))) (passes (now (l .entry)) (now (f .entry)) (length (now (work .entry))) (length (now (rows .entry)))) (now (work .entry)) (now (work .exit)) (now (rows .exit)) r ⌝ }
+    ensures { λ r. ⌜ Analyses (now (l .entry)) (now (f .entry)) (now (work .entry)) (now (work .exit)) (now (rows .entry)) (now (rows .exit)) r ⌝ }
 {
     let log = event_log::read_log(l);
     let verdict = log.verdict;

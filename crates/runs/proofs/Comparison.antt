@@ -72,7 +72,7 @@ then-trans {A} cmp lin a b c p q r h e f = go (then-lt (cmp a b) p e) (then-lt (
 
 -- ---- numbers
 
-compare-self : (n : ℕ) → compare n n ≡ Ordering·eq
+pub compare-self : (n : ℕ) → compare n n ≡ Ordering·eq
 compare-self zero = compare·zero-zero
 compare-self (suc n) = compare·suc-suc n n ∙ compare-self n
 
@@ -94,7 +94,7 @@ compare-less zero (suc n) e = zero-lt-suc n
 compare-less (suc m) zero e = absurd (gt≢lt (sym (compare·suc-zero m) ∙ e))
 compare-less (suc m) (suc n) e = suc-le-suc (compare-less m n (sym (compare·suc-suc m n) ∙ e))
 
-less-compare : (m n : ℕ) → m < n → compare m n ≡ Ordering·lt
+pub less-compare : (m n : ℕ) → m < n → compare m n ≡ Ordering·lt
 less-compare m zero h = absurd (not-suc-le-zero h)
 less-compare zero (suc n) h = compare·zero-suc n
 less-compare (suc m) (suc n) h = compare·suc-suc m n ∙ less-compare m n (le-of-suc-le-suc h)

@@ -1,12 +1,11 @@
 -- The definitions compute: M12 of the paper, and two runs that end on one event, of which the longer comes first.
-use mathlib.Core.Path.{_≡_, refl, sym}
-use mathlib.Core.Bool.{Bool, true, false, _&&_, Bool·beq, false≢true}
-use mathlib.Core.Option.{Option, none, some, Option·some-injective}
+use mathlib.Core.Path.{_≡_, refl}
+use mathlib.Core.Bool.{Bool, true, false, _&&_, Bool·beq}
+use mathlib.Core.Option.{Option, none, some}
 use mathlib.Core.List.{[], _∷_}
 use Prim.Native.Nat.{ℕ, zero, suc}
 use lib.Dec.{eqb}
-use borrow.Author.Tests.{eqb-true, eq-eqb}
-use Rattle.runs.specs.Machine.{Machine, Laws}
+use Rattle.runs.specs.Machine.{Machine}
 use Rattle.runs.specs.Lists.{keep, gather, has, distinct}
 use Rattle.runs.specs.Order.{lex, order}
 use Rattle.runs.specs.Search.{found, absent, crowded, firing, moves, stays, unended, offers, next, endings, lesser, leastFrom, least, anyAlive, hopeful, waiting, waitingCount, scan, origin, search}
@@ -26,24 +25,6 @@ bare =
       expired = λ c k n. false;
       steps = 1;
       events = 3;
-    }
-
--- it keeps the laws, so they can be met
-bare-laws : Laws bare
-bare-laws =
-    record {
-      same-equal = eqb-true;
-      equal-same = λ c. eq-eqb c c refl;
-      Valid = λ c. Unit {0};
-      valid-start = tt;
-      valid-fire = λ c d n k v e. tt;
-      start-open = refl;
-      first = 0;
-      stable = λ c k n m v f l b e. e;
-      silent = λ c k n m v f l b e. absurd (false≢true e);
-      weight = λ c. c;
-      weight-start = refl;
-      weight-fire = λ c d n k e. sym (Option·some-injective (suc c) d e);
     }
 
 -- 'from 0, two seats give 11 at event 2; three give none, width 3'

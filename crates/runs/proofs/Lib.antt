@@ -5,6 +5,7 @@ pub mod Moves
 pub mod Least
 pub mod Reach
 pub mod Meets
+pub mod Counts
 pub mod Unique
 pub mod Exactly
 pub mod Insert

@@ -1,7 +1,7 @@
 -- Members of the lists that the definitions build, and: two lists without repeats and with the same members are equally long.
 use mathlib.Core.Path.{_≡_, refl, sym, ap, _∙_, subst}
 use mathlib.Core.Logic.{_⊎_, inl, inr}
-use mathlib.Core.Bool.{Bool, true, false, not, _||_, true≢false, false≢true}
+use mathlib.Core.Bool.{Bool, true, false, not, _||_, or-true, true≢false, false≢true}
 use mathlib.Core.List.{List, [], _∷_, map, List·Memᴰ·head, List·Memᴰ·tail, List·Memᴰ·not-nil, List·Memᴰ·cases-cons, Memᴰ·append-left, Memᴰ·append-right, List·Memᴰ·append-cases}
 use Prim.Native.Nat.{suc, _≤_, zero-le}
 use native.Mathlib.Nat.{le-antisymm}
@@ -113,7 +113,7 @@ module _ {A : Type 0} where
 
 -- the list with each member once
 module _ {A : Type 0} (same : A → A → Bool) (same-equal : (a b : A) → same a b ≡ true → a ≡ b) (equal-same : (a : A) → same a a ≡ true) where
-  has-in : (a : A) (xs : List A) → has same a xs ≡ true → In a xs
+  pub has-in : (a : A) (xs : List A) → has same a xs ≡ true → In a xs
   unfolding has
   has-in a [] h = absurd (false≢true h)
   has-in a (x ∷ xs) h = go (same a x) refl h (λ r. has-in a xs r)
@@ -122,14 +122,10 @@ module _ {A : Type 0} (same : A → A → Bool) (same-equal : (a b : A) → same
       go true e h ih = List·Memᴰ·head (same-equal a x e)
       go false e h ih = List·Memᴰ·tail (ih h)
 
-  or-right : (b : Bool) → (b || true) ≡ true
-  or-right true = refl
-  or-right false = refl
-
   has-out : {a : A} {xs : List A} → In a xs → has same a xs ≡ true
   unfolding has
   has-out {a} (List·Memᴰ·head {x = x} {xs = xs} e) = ap (λ b. b || has same a xs) (subst (λ y. same a y ≡ true) e (equal-same a))
-  has-out {a} (List·Memᴰ·tail {x = x} {xs = xs} m) = ap (λ b. same a x || b) (has-out m) ∙ or-right (same a x)
+  has-out {a} (List·Memᴰ·tail {x = x} {xs = xs} m) = ap (λ b. same a x || b) (has-out m) ∙ or-true (same a x)
 
   pub distinct-in : (xs : List A) {a : A} → In a (distinct same xs) → In a xs
   unfolding distinct

@@ -1,7 +1,7 @@
 -- What the computed moves, stays and tests hold, as facts of the machine, and back.
 use mathlib.Core.Path.{_≡_, refl, sym, ap, _∙_, subst}
 use mathlib.Core.Logic.{_⊎_, inl, inr}
-use mathlib.Core.Bool.{Bool, true, false, not, _&&_, _||_, true≢false, false≢true}
+use mathlib.Core.Bool.{Bool, true, false, not, _&&_, _||_, or-true, true≢false, false≢true}
 use mathlib.Core.Option.{Option, none, some}
 use mathlib.Core.List.{List, [], _∷_, _++_, List·Memᴰ·head, List·Memᴰ·tail, List·Memᴰ·not-nil, List·Memᴰ·cases-cons, List·Memᴰ·eq-of-singleton}
 use Prim.Native.Nat.{ℕ, zero, suc, _+_, _≤_, _<_}
@@ -9,7 +9,7 @@ use native.Mathlib.Nat.{eq-or-lt-of-le}
 use native.Mathlib.Omega.{arith}
 use lib.Dec.{leb}
 use lib.ListN.{length, take}
-use borrow.Author.Tests.{leb-true, le-leb}
+use borrow.Author.Tests.{leb-true, le-leb, not-true}
 use Rattle.runs.specs.Lists.{In}
 use Rattle.runs.specs.Machine.{Machine}
 use Rattle.runs.specs.Run.{Trail, Quiet}
@@ -22,10 +22,6 @@ and-both false b e = absurd (false≢true e)
 
 pub both-and : {a b : Bool} → a ≡ true → b ≡ true → (a && b) ≡ true
 both-and p q = rw p q
-
-pub not-true : (a : Bool) → not a ≡ true → a ≡ false
-not-true true e = sym e
-not-true false e = refl
 
 pub begun-same : (t u : Trail) → length t ≡ length u → begun t ≡ begun u
 begun-same [] [] h = refl
@@ -223,13 +219,9 @@ module _ (M : Machine) where
   alive-out c n zero k h e = absurd (omega (arith, h))
   alive-out c n (suc r) k h e = go (eq-or-lt-of-le h) (λ q. alive-out c n r k q e)
     where
-      right : (b : Bool) → (b || true) ≡ true
-      right true = refl
-      right false = refl
-
       go : (suc k ≡ suc r) ⊎ (suc k < suc r) → (k < r → anyAlive M c n r ≡ true) → (not (expired c r n) || anyAlive M c n r) ≡ true
       go (inl q) ih = ap (λ b. not b || anyAlive M c n r) (subst (λ z. expired c z n ≡ false) (omega (arith, q)) e)
-      go (inr q) ih = ap (λ b. not (expired c r n) || b) (ih (omega (arith, q))) ∙ right (not (expired c r n))
+      go (inr q) ih = ap (λ b. not (expired c r n) || b) (ih (omega (arith, q))) ∙ or-true (not (expired c r n))
 
   pub hopeful-in : (n : ℕ) (th : Thread M) → hopeful M n th ≡ true → Hopeful M (th .config) n
   unfolding anyAlive hopeful

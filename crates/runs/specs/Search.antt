@@ -11,16 +11,23 @@ use Rattle.runs.specs.Run.{Trail}
 use Rattle.runs.specs.Order.{order}
 
 -- a configuration with a trail that leads to it
-pub record Thread (M : Machine) : Type 0 where
-  pub config : M .Config
+pub record ThreadOver (Config : Type 0) : Type 0 where
+  pub config : Config
   pub trail : Trail
 
 -- The answer of a search: the least run with the configuration it ends in, none, or crowded after an event. The number
 -- that found and absent carry is the peak (the paper's width).
-pub data Answer (M : Machine) : Type 0 where
-  found : M .Config → Trail → ℕ → Answer M
-  absent : ℕ → Answer M
-  crowded : ℕ → Answer M
+pub data AnswerOver (Config : Type 0) : Type 0 where
+  found : Config → Trail → ℕ → AnswerOver Config
+  absent : ℕ → AnswerOver Config
+  crowded : ℕ → AnswerOver Config
+
+-- of a machine: machines with one type of configurations have one type of answers
+abbrev pub Thread : Machine → Type 0
+Thread M = ThreadOver (M .Config)
+
+abbrev pub Answer : Machine → Type 0
+Answer M = AnswerOver (M .Config)
 
 abbrev pub begun : Trail → Bool
 begun [] = false

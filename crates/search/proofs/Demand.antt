@@ -6,8 +6,9 @@ use mathlib.Core.List.{List}
 use native.Mathlib.Omega.{arith}
 use lib.ListN.{length, getD}
 use lib.Seq.{ext-getD}
-use borrow.Author.Tests.{lt-leb, le-ltb}
+use Rattle.refusal.specs.declared.Refusal.{Refusal}
 use Rattle.refusal.specs.declared.Refusal.the-variants.{Crowded}
+use Rattle.refusal.specs.Refusals.{NotCrowded}
 use Rattle.event_log.specs.Log.{Log}
 use Rattle.formula.specs.Formula.{Formula}
 use Rattle.runs.specs.Run.{Trail}
@@ -21,14 +22,24 @@ use Rattle.machine.specs.Machine.{machine, accepting}
 use Rattle.machine.proofs.Machine.{Premises, laws}
 use Rattle.search.specs.declared.Verdict.the-variants.{Refused, Absent, Accept, Reject}
 use Rattle.search.specs.declared.SearchAnswer.{SearchAnswer}
-use Rattle.search.specs.Search.{slotsOf, answerOf, checked, searchAnswer}
+use Rattle.search.specs.Search.{slotsOf, answerOf, searchAnswer}
 use Rattle.search.specs.Demand.{Names, Nothing, Carries, Demand}
+use Rattle.search.proofs.Checks.{searched}
 use Rattle.search.proofs.Premises.{Accepted, accepted-premises, ends-valid}
 
 -- of accepted files, a start below the event count and 192 words or more, the answer is that of the runs
 pub search-runs : (l f : List ℕ) (log : Log) (formula : Formula) (start words : ℕ) → Accepted l f log formula → start < length (log .events) → 192 ≤ words → searchAnswer l f start words ≡ answerOf log formula (search (machine log formula) (slotsOf words) start)
-unfolding searchAnswer checked
-search-runs l f log formula start words a h k = rw (a .log-read, a .formula-read, lt-leb (length (log .events)) start h, le-ltb words 192 k)
+search-runs l f log formula start words a h k = searched l f start words log (a .log-read) formula (a .formula-read) h k
+
+-- a search that runs is refused with nothing but crowded
+pub only-crowded : (g : Log) (fm : Formula) (a : Answer (machine g fm)) (why : Refusal) → answerOf g fm a .verdict ≡ Refused why → NotCrowded why → ⊥
+only-crowded g fm (found c t w) why e h = go (accepting fm c) refl
+  where
+    go : (b : Bool) → accepting fm c ≡ b → ⊥
+    go true a = let q = rw a at e in let z : _≡_ {A = ℕ} 0 1 = cc in omega arith
+    go false a = let q = rw a at e in let z : _≡_ {A = ℕ} 0 1 = cc in omega arith
+only-crowded g fm (absent w) why e h = let z : _≡_ {A = ℕ} 0 1 = cc in omega arith
+only-crowded g fm (crowded n) why e h = h n (cc)
 
 module _ (log : Log) (formula : Formula) (P : Premises log formula) (slots start : ℕ) (inside : start < length (log .events)) where
   -- the answer of the runs, and as the search gives it
@@ -48,20 +59,20 @@ module _ (log : Log) (formula : Formula) (P : Premises log formula) (slots start
 
   -- the verdict of an answer, told back
   verdict-crowded : (a : Answer (machine log formula)) (n : ℕ) → Runs.Demand (machine log formula) slots start a → (answerOf log formula a) .verdict ≡ Refused (Crowded n) → Runs.FirstCrowded (machine log formula) slots start n
-  verdict-crowded (found c t w) n d e = go (accepting formula c) e
+  verdict-crowded (found c t w) n d e = go (accepting formula c) refl
     where
-      go : (b : Bool) → cond b Accept Reject ≡ Refused (Crowded n) → Runs.FirstCrowded (machine log formula) slots start n
-      go true q = let z : _≡_ {A = ℕ} 0 1 = cc in absurd (omega arith)
-      go false q = let z : _≡_ {A = ℕ} 0 1 = cc in absurd (omega arith)
+      go : (b : Bool) → accepting formula c ≡ b → Runs.FirstCrowded (machine log formula) slots start n
+      go true a = let q = rw a at e in let z : _≡_ {A = ℕ} 0 1 = cc in absurd (omega arith)
+      go false a = let q = rw a at e in let z : _≡_ {A = ℕ} 0 1 = cc in absurd (omega arith)
   verdict-crowded (absent w) n d e = let z : _≡_ {A = ℕ} 0 1 = cc in absurd (omega arith)
   verdict-crowded (crowded m) n d e = let q : m ≡ n = cc in rw q at d
 
   verdict-absent : (a : Answer (machine log formula)) → Runs.Demand (machine log formula) slots start a → (answerOf log formula a) .verdict ≡ Absent → Nothing log formula slots start
-  verdict-absent (found c t w) d e = go (accepting formula c) e
+  verdict-absent (found c t w) d e = go (accepting formula c) refl
     where
-      go : (b : Bool) → cond b Accept Reject ≡ Absent → Nothing log formula slots start
-      go true q = let z : _≡_ {A = ℕ} 0 1 = cc in absurd (omega arith)
-      go false q = let z : _≡_ {A = ℕ} 0 1 = cc in absurd (omega arith)
+      go : (b : Bool) → accepting formula c ≡ b → Nothing log formula slots start
+      go true a = let q = rw a at e in let z : _≡_ {A = ℕ} 0 1 = cc in absurd (omega arith)
+      go false a = let q = rw a at e in let z : _≡_ {A = ℕ} 0 1 = cc in absurd (omega arith)
   verdict-absent (absent w) d e = record { width = w; absent = d }
   verdict-absent (crowded m) d e = let z : _≡_ {A = ℕ} 0 1 = cc in absurd (omega arith)
 

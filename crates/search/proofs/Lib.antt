@@ -1,3 +1,4 @@
--- Accepted files make a machine that keeps the laws, and the search over them meets the third demand.
+-- The checks of a call in order; accepted files make a machine that keeps the laws, and the search over them meets the third demand.
+pub mod Checks
 pub mod Premises
 pub mod Demand

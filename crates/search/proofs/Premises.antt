@@ -21,12 +21,12 @@ pub record Accepted (l f : List ℕ) (log : Log) (formula : Formula) : Type 0 wh
   pub log-bytes : Bytes l
   pub formula-bytes : Bytes f
   pub log-read : LogRead.readLog l ≡ LogRead.accepted log
-  pub formula-read : FormulaRead.readFormula (log .fields) f ≡ FormulaRead.accepted formula
+  pub formula-read : FormulaRead.readFormula (length (log .fields)) f ≡ FormulaRead.accepted formula
 
 -- accepted files give what the laws need
 pub accepted-premises : (l f : List ℕ) (log : Log) (formula : Formula) → Accepted l f log formula → Premises log formula
 accepted-premises l f log formula a =
-    premises log formula (accepted-is-encoding l log (a .log-bytes) (a .log-read) .1) (accepted-correct (log .fields) f formula (a .formula-bytes) (a .formula-read) .1)
+    premises log formula (accepted-is-encoding l log (a .log-bytes) (a .log-read) .1) (accepted-correct (length (log .fields)) f formula (a .formula-bytes) (a .formula-read) .1)
 
 module _ (log : Log) (formula : Formula) (P : Premises log formula) where
   -- what a trail leads to is valid

@@ -58,7 +58,7 @@ withFormula g (FormulaRead.accepted f) start words = checked g f start words
 withFormula g (FormulaRead.refused r) start words = refusal r
 
 abbrev pub withLog : LogRead.Reading → List ℕ → ℕ → ℕ → SearchAnswer
-withLog (LogRead.accepted g) f start words = withFormula g (FormulaRead.readFormula (g .fields) f) start words
+withLog (LogRead.accepted g) f start words = withFormula g (FormulaRead.readFormula (length (g .fields)) f) start words
 withLog (LogRead.refused r) f start words = refusal r
 
 -- The search's answer: from the bytes of the log and the formula, the start, the number of lent work words.

@@ -1,5 +1,5 @@
 -- Comparing words: a word with a flag, trails from the front (what is left from place i on), and configurations part by part.
-use Prim.Native.Nat.{ℕ, zero, suc, _+_, _<_, _≤_, _/_, _%_, compare, Ordering, Ordering·lt, Ordering·eq, Ordering·gt, compare·zero-zero, compare·zero-suc, compare·suc-zero, compare·suc-suc}
+use Prim.Native.Nat.{ℕ, zero, suc, _+_, _<_, _≤_, _/_, _%_, compare, Ordering, Ordering·lt, Ordering·eq, Ordering·gt, compare·suc-zero, compare·suc-suc}
 use mathlib.Core.Path.{_≡_, refl, _∙_}
 use mathlib.Core.Bool.{Bool, true, false, not, Bool·beq}
 use mathlib.Core.List.{List, map}
@@ -10,6 +10,7 @@ use lib.Dec.{eqb}
 use lib.Seq.{drop-cons}
 use Rattle.base.specs.Lists.{sameList}
 use Rattle.runs.specs.Order.{then, lex}
+use Rattle.runs.proofs.Comparison.{compare-self, less-compare}
 use Rattle.slots.specs.declared.Thread.{Thread}
 use Rattle.slots.specs.Threads.{sameConfig, key}
 use Rattle.slots.specs.Words.{bit, threadOf}
@@ -42,21 +43,11 @@ pub key-at : (n : Bool) (l : List ℕ) (i : ℕ) → getD (map (key n) l) i 0 �
 key-at true l i = List·getD-map (key true) l i 0
 key-at false l i = List·getD-map (key false) l i 0
 
-pub compare-lt : (x y : ℕ) → x < y → compare x y ≡ Ordering·lt
-compare-lt zero zero h = absurd (omega arith)
-compare-lt zero (suc y) h = compare·zero-suc y
-compare-lt (suc x) zero h = absurd (omega arith)
-compare-lt (suc x) (suc y) h = compare·suc-suc x y ∙ compare-lt x y (omega arith)
-
 pub compare-gt : (x y : ℕ) → y < x → compare x y ≡ Ordering·gt
 compare-gt zero zero h = absurd (omega arith)
 compare-gt zero (suc y) h = absurd (omega arith)
 compare-gt (suc x) zero h = compare·suc-zero x
 compare-gt (suc x) (suc y) h = compare·suc-suc x y ∙ compare-gt x y (omega arith)
-
-compare-self : (x : ℕ) → compare x x ≡ Ordering·eq
-compare-self zero = compare·zero-zero
-compare-self (suc x) = compare·suc-suc x x ∙ compare-self x
 
 pub compare-eq : (x y : ℕ) → x ≤ y → y ≤ x → compare x y ≡ Ordering·eq
 compare-eq x y h k =
@@ -70,7 +61,7 @@ module _ (xs ys : List ℕ) (i : ℕ) (o : Ordering) (e : o ≡ lex (drop i xs) 
   lex-at hx hy = e ∙ rw (drop-cons xs i 0, drop-cons ys i 0, add-one i)
 
   pub lex-lt : i < length xs → i < length ys → getD xs i 0 < getD ys i 0 → o ≡ Ordering·lt
-  lex-lt hx hy h = lex-at hx hy ∙ rw (compare-lt (getD xs i 0) (getD ys i 0) h)
+  lex-lt hx hy h = lex-at hx hy ∙ rw (less-compare (getD xs i 0) (getD ys i 0) h)
 
   pub lex-gt : i < length xs → i < length ys → getD ys i 0 < getD xs i 0 → o ≡ Ordering·gt
   lex-gt hx hy h = lex-at hx hy ∙ rw (compare-gt (getD xs i 0) (getD ys i 0) h)

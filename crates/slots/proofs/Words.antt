@@ -24,17 +24,6 @@ unfolding threadOf
 thread-take n ws h =
     rw (getD-take n ws 0 0 (omega arith), getD-take n ws 33 0 (omega arith), part-take 1 8 n ws (omega arith), part-take 9 8 n ws (omega arith), part-take 17 16 n ws (omega arith), part-take 34 32 n ws (omega arith))
 
--- words enough make a thread whose arrays have their lengths
-pub thread-sized : (ws : List ℕ) → 66 ≤ length ws → Sized (threadOf ws)
-unfolding threadOf
-thread-sized ws h =
-    record {
-      held-8 = length-map (take 8 (drop 1 ws)) bit ∙ part-length 1 8 ws (omega arith);
-      values-8 = part-length 9 8 ws (omega arith);
-      counters-16 = part-length 17 16 ws (omega arith);
-      trail-32 = part-length 34 32 ws (omega arith);
-    }
-
 flags-back : (h : List Bool) → map bit (map flag h) ≡ h
 flags-back [] = refl
 flags-back (true ∷ h) = ap (λ l. true ∷ l) (flags-back h)

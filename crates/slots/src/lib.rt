@@ -257,11 +257,11 @@ fn greater(events: Side, numbers: Side) -> bool
     }
 }
 
-// How many trail words count.
-fn capped(steps: u32) -> usize
+// How many words of a trail count: one a step, at most 32.
+pub fn capped(steps: u32) -> usize
     ensures { λ r. ⌜ r ≡ min steps 32 ⌝ }
 {
-    if steps < 32 { steps as usize } else { 32 }
+    base::lower(steps as usize, 32)
 }
 
 // Whether a's trail comes after b's: first by the events, then by the step numbers.

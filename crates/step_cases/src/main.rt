@@ -1,6 +1,6 @@
 // Runs one step of the semantics on the bench's executed cases, and prints a line for each: whether a step with time less than 600
 // is expired (the paper's hopeless) after 599, 600 and 601, on a rising and on a plain field; which events fire which steps of F;
-// and where the steps of a formula with guards and their guards stand.
+// and where the steps of a formula stand.
 use interpreter::Configuration;
 use libc::STDOUT_FILENO;
 
@@ -50,15 +50,8 @@ fn show_fires(at: usize, state: u32, held: bool, time: u32, code: u32) {
     say(fired.fires);
 }
 
-// Where step k of state s stands and where its guard does, 0 where there is none. Each line of bytes is a STATE, or a STEP with its
-// clauses and its guard; the table holds the offsets of the three STEPs.
-fn show_places(s: u32, k: usize) {
-    let f = b"\x10\x00\
-        \x11\x01\x14\x00\x00\x12\x01\x00\x00\x00\x00\x15\
-        \x11\x01\x15\x25\x22\x00\x20\x00\x00\x00\x03\
-        \x10\x00\
-        \x11\x02\x13\x00\x05\x00\x12\x01\x00\x00\x00\x00\x02\x14\x00\x01\x15\x25\x21\x00\x21\x01\
-        \x10\x02\x00";
+// Where step k of state s stands by a table with the offsets of three STEPs, 0 where there is none.
+fn show_place(s: u32, k: usize) {
     let mut table = [0usize; 128];
     table[0] = 2;
     table[1] = 14;
@@ -71,11 +64,6 @@ fn show_places(s: u32, k: usize) {
     io::print_decimal(
         STDOUT_FILENO,
         interpreter::steps::step_offset(&table, s, k) as u64,
-    );
-    io::write_all(STDOUT_FILENO, b" guard at ");
-    io::print_decimal(
-        STDOUT_FILENO,
-        interpreter::steps::guard_offset(f, &table, s, k) as u64,
     );
     io::write_all(STDOUT_FILENO, b"\n");
 }
@@ -91,9 +79,9 @@ fn main() {
     show_fires(2, 0, true, 501, 1);
     show_fires(16, 1, true, 500, 1);
     show_fires(16, 1, true, 500, 2);
-    show_places(0, 0);
-    show_places(0, 1);
-    show_places(1, 0);
-    show_places(1, 1);
-    show_places(2, 0);
+    show_place(0, 0);
+    show_place(0, 1);
+    show_place(1, 0);
+    show_place(1, 1);
+    show_place(2, 0);
 }

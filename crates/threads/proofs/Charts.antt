@@ -13,6 +13,7 @@ use Rattle.base.proofs.Lists.{length-pad, getD-pad, All-at}
 use Rattle.event_log.specs.Log.{Log, Kind, plain, rising, Event}
 use Rattle.event_log.specs.Read as LogRead
 use Rattle.formula.specs.Formula.{Formula, Step}
+use Rattle.formula.specs.Lookup.{stepAt}
 use Rattle.machine.specs.Configuration.{Config, Valid, total}
 use Rattle.machine.specs.Firing.{field, fire}
 use Rattle.machine.proofs.Walk.{fire-fields}
@@ -21,7 +22,7 @@ use Rattle.interpreter.specs.declared.Configuration.{Configuration}
 use Rattle.threads.specs.declared.Move.{Move}
 use Rattle.threads.specs.Calls.{FiredBy}
 use Rattle.machine.specs.Expiry.{isRising, rises}
-use Rattle.machine.specs.Machine.{stepOf, eventAt, fireBy, fireAt}
+use Rattle.machine.specs.Machine.{eventAt, fireBy, fireAt}
 use Rattle.interpreter.specs.Bytes.{offsetOf, configOf, fired}
 use Rattle.interpreter.proofs.CodeFiring.{Ready, ready, fire-answer}
 use Rattle.interpreter.proofs.CodeMachine.{StepThere, Charted}
@@ -35,7 +36,7 @@ same-mark rising = refl
 
 module _ (g : Log) (fm : Formula) (f table kinds : List ℕ) (up : List Bool) (s : Setting g fm f table kinds up) where
   pub charted : Charted (length (g .fields)) (length (fm .states)) fm f table
-  charted = rw (s .bytes, s .table-is) (Lookup.charted (g .fields) fm (s .formula))
+  charted = rw (s .bytes, s .table-is) (Lookup.charted (length (g .fields)) fm (s .formula))
 
   pub marks : (i : ℕ) → getD up i false ≡ rises (g .fields) i
   marks i = go (decLt i 8)
@@ -77,7 +78,7 @@ module _ (g : Log) (fm : Formula) (f table kinds : List ℕ) (up : List Bool) (s
   pub fires-some : (c : Configuration) → configOf c ≡ conf t → Ready c → (offsetOf table (t .state) k ≡ 0 → ⊥)
       → fireAt g fm (conf t) n k ≡ cond ((fired f (offsetOf table (t .state) k) c event) .fires) (some (configOf ((fired f (offsetOf table (t .state) k) c event) .config))) none
   unfolding fireAt
-  fires-some c e r z = go (stepOf fm (t .state) k) (charted g fm f table kinds up s .stands (t .state) k h)
+  fires-some c e r z = go (stepAt fm (t .state) k) (charted g fm f table kinds up s .stands (t .state) k h)
     where
       go : (o : Option Step) → StepThere (length (g .fields)) (length (fm .states)) f (offsetOf table (t .state) k) o
           → fireBy o (conf t) (eventAt g n) ≡ cond ((fired f (offsetOf table (t .state) k) c event) .fires) (some (configOf ((fired f (offsetOf table (t .state) k) c event) .config))) none

@@ -10,8 +10,9 @@ use Rattle.base.proofs.Lists.{getD-pad}
 use Rattle.event_log.specs.Log.{Log}
 use Rattle.formula.specs.Formula.{Formula, State, StateKind, ordinary, committed as committedKind, accept, reject}
 use Rattle.formula.specs.Encode.{kindByte}
+use Rattle.formula.specs.Correct.{isFinal}
 use Rattle.machine.specs.Configuration.{Config}
-use Rattle.machine.specs.Machine.{kindIs, isFinal, isCommitted, final, committed}
+use Rattle.machine.specs.Machine.{kindIs, isCommitted, final, committed}
 use Rattle.slots.specs.declared.Thread.{Thread}
 use Rattle.threads.specs.Setting.{Setting, Fit, conf}
 

@@ -24,7 +24,7 @@ use Rattle.slots.specs.Threads.{trailOf, Sized}
 -- which fields rise
 pub record Setting (g : Log) (fm : Formula) (f table kinds : List ℕ) (up : List Bool) : Type 0 where
   pub log : LogCorrect.Correct g
-  pub formula : FormulaCorrect.Correct (g .fields) fm
+  pub formula : FormulaCorrect.Correct (length (g .fields)) fm
   pub bytes : f ≡ encode fm
   pub table-is : table ≡ stepTable fm
   pub kinds-are : kinds ≡ pad 16 0 (map (λ (s : State). kindByte (s .kind)) (fm .states))

@@ -6,19 +6,15 @@ use lib.ListN.{List·getD-eq-default}
 use Rattle.base.proofs.byte_at.Statement.{statement}
 use Rattle.base.proofs.byte_at.Tie as tie
 
--- src/lib.rt:18:28
 shared-slice-read-wide : tie.Need-shared-slice-read-wide
 shared-slice-read-wide c = search needs
 
--- src/lib.rt:18:23
 wide-requires : tie.Need-wide-requires
 wide-requires c κs = search needs
 
--- src/lib.rt:15:1
 returns : tie.Need-returns
 returns c = search needs
 
--- src/lib.rt:15:1
 returns-2 : tie.Need-returns-2
 returns-2 c = (sym (List·getD-eq-default (now (c .before .before .args .b)) 0 (c .if1 .left)), lit< tt)
 

@@ -1,9 +1,9 @@
 -- `engine::search` meets its contract: each check's refusal is handed on, and the search runs where all are passed.
-use Rattle.engine.proofs.Calls.{all-bytes, by-log, few-events, by-formula, by-search, passes-both}
+use Rattle.base.proofs.Lists.{all-bytes}
+use Rattle.engine.proofs.Calls.{by-log, few-events, by-formula, by-search}
 use Rattle.search.specs.Search.{refusal}
 use Rattle.engine.specs.Checks.{refusalOfLog, refusalOfFormula}
-use lib.ListN.{length}
-use mathlib.Core.Path.{refl, ap, sym, _∙_}
+use mathlib.Core.Path.{refl, ap, _∙_}
 use native.Mathlib.Omega.{arith}
 use denote.Ref.{now}
 use borrow.Author.Needs.{needs}
@@ -27,8 +27,14 @@ refused-requires c κs = search needs
 
 returns : tie.Need-returns
 returns c =
+    let a = c .before .before .before .before .before .before .before .before .args in
     let e = c .refused .ensures ∙ ap refusal (c .before .refusal-of-log .ensures ∙ ap refusalOfLog (c .before .before .enum-told2 .given .1)) in
-    (by-log (now (c .before .before .before .before .before .before .before .before .args .l)) (now (c .before .before .before .before .before .before .before .before .args .f)) (c .before .before .before .before .before .before .before .before .args .start) (length (now (c .before .before .before .before .before .before .before .before .args .work))) (c .before .before .before .before .read-log .result) (c .before .before .before .before .read-log .ensures) (c .before .before .enum-told2 .given .0 .0) (c .refused .result) (c .before .before .enum-told2 .given .1) e, ((λ x. refl, refl), rw (c .refused .ensures) (omega arith)))
+    record {
+      answer = by-log (now (a .l)) (now (a .f)) (a .start) (now (a .work)) (c .before .before .before .before .read-log .result) (c .before .before .before .before .read-log .ensures) (c .before .before .enum-told2 .given .0 .0) (c .refused .result) (c .before .before .enum-told2 .given .1) e;
+      untouched = λ why v u. refl;
+      number = refl;
+      within = rw (c .refused .ensures) (omega arith);
+    }
 
 read-formula-requires : tie.Need-read-formula-requires
 read-formula-requires c κs = search needs
@@ -47,19 +53,33 @@ refused-requires-2 c κs = search needs
 
 returns-2 : tie.Need-returns-2
 returns-2 c =
+    let a = c .before .before .before .before .before .before .before .before .before .before .before .args in
     let e = c .refused2 .ensures ∙ ap refusal (c .before .refusal-of-formula .ensures ∙ ap refusalOfFormula (c .before .before .enum-told4 .given .1)) in
-    (by-formula (now (c .before .before .before .before .before .before .before .before .before .before .before .args .l)) (now (c .before .before .before .before .before .before .before .before .before .before .before .args .f)) (c .before .before .before .before .before .before .before .before .before .before .before .args .start) (length (now (c .before .before .before .before .before .before .before .before .before .before .before .args .work))) (c .before .before .before .before .before .before .before .read-log .result) (c .before .before .before .before .before .before .before .read-log .ensures) (all-bytes (now (c .before .before .before .before .before .before .before .before .before .before .before .args .l)) (λ i. omega (arith, c .before .before .before .before .before .before .before .before .before .before .shared-slice-known .given i))) (c .before .before .before .before .before .enum-told .given .1) (c .before .before .before .before .read-formula .result) (c .before .before .before .before .read-formula .ensures) (c .before .before .enum-told4 .given .0 .0) (c .refused2 .result) (c .before .before .enum-told4 .given .1) e, ((λ x. refl, refl), rw (c .refused2 .ensures) (omega arith)))
+    let bytes = all-bytes (now (a .l)) (λ i. omega (arith, c .before .before .before .before .before .before .before .before .before .before .shared-slice-known .given i)) in
+    record {
+      answer = by-formula (now (a .l)) (now (a .f)) (a .start) (now (a .work)) (c .before .before .before .before .before .before .before .read-log .result) (c .before .before .before .before .before .before .before .read-log .ensures) bytes (c .before .before .before .before .before .enum-told .given .1) (c .before .before .before .before .read-formula .result) (c .before .before .before .before .read-formula .ensures) (c .before .before .enum-told4 .given .0 .0) (c .refused2 .result) (c .before .before .enum-told4 .given .1) e;
+      untouched = λ why v u. refl;
+      number = refl;
+      within = rw (c .refused2 .ensures) (omega arith);
+    }
 
 checked-requires : tie.Need-checked-requires
-checked-requires c κs = few-events (now (c .before .before .before .before .before .before .before .before .before .before .args .l)) (now (c .before .before .before .before .before .before .before .before .before .before .args .f)) (c .before .before .before .before .before .before .before .before .before .before .args .start) (length (now (c .before .before .before .before .before .before .before .before .before .before .args .work))) (c .before .before .before .before .before .before .read-log .result) (c .before .before .before .before .before .before .read-log .ensures) (all-bytes (now (c .before .before .before .before .before .before .before .before .before .before .args .l)) (λ i. omega (arith, c .before .before .before .before .before .before .before .before .before .shared-slice-known .given i))) (c .before .before .before .before .enum-told .given .1)
+checked-requires c κs =
+    let a = c .before .before .before .before .before .before .before .before .before .before .args in
+    let bytes = all-bytes (now (a .l)) (λ i. omega (arith, c .before .before .before .before .before .before .before .before .before .shared-slice-known .given i)) in
+    few-events (now (a .l)) (now (a .f)) (a .start) (now (a .work)) (c .before .before .before .before .before .before .read-log .result) (c .before .before .before .before .before .before .read-log .ensures) bytes (c .before .before .before .before .enum-told .given .1)
 
 same-length : tie.Need-same-length
 same-length c = search needs
 
 returns-3 : tie.Need-returns-3
 returns-3 c =
-    let all = passes-both (now (c .before .before .before .before .before .before .before .before .before .before .before .before .before .args .l)) (now (c .before .before .before .before .before .before .before .before .before .before .before .before .before .args .f)) (c .before .before .before .before .before .before .before .before .before .before .before .before .before .args .start) (length (now (c .before .before .before .before .before .before .before .before .before .before .before .before .before .args .work))) (c .before .before .before .before .before .before .before .before .before .read-log .result) (c .before .before .before .before .before .before .before .before .before .read-log .ensures) (all-bytes (now (c .before .before .before .before .before .before .before .before .before .before .before .before .before .args .l)) (λ i. omega (arith, c .before .before .before .before .before .before .before .before .before .before .before .before .shared-slice-known .given i))) (c .before .before .before .before .before .before .before .enum-told .given .1) (c .before .before .before .before .before .before .read-formula .result) (c .before .before .before .before .before .before .read-formula .ensures) (all-bytes (now (c .before .before .before .before .before .before .before .before .before .before .before .before .before .args .f)) (λ i. omega (arith, c .before .before .before .before .before .before .before .before .before .before .before .shared-slice-known2 .given i))) (c .before .before .before .before .enum-told3 .given .1) in
-    (by-search (now (c .before .before .before .before .before .before .before .before .before .before .before .before .before .args .l)) (now (c .before .before .before .before .before .before .before .before .before .before .before .before .before .args .f)) (c .before .before .before .before .before .before .before .before .before .before .before .before .before .args .start) (length (now (c .before .before .before .before .before .before .before .before .before .before .before .before .before .args .work))) (c .before .before .before .before .before .before .before .before .before .read-log .result) (c .before .before .before .before .before .before .before .before .before .read-log .ensures) (all-bytes (now (c .before .before .before .before .before .before .before .before .before .before .before .before .before .args .l)) (λ i. omega (arith, c .before .before .before .before .before .before .before .before .before .before .before .before .shared-slice-known .given i))) (c .before .before .before .before .before .before .before .enum-told .given .1) (c .before .before .before .before .before .before .read-formula .result) (c .before .before .before .before .before .before .read-formula .ensures) (all-bytes (now (c .before .before .before .before .before .before .before .before .before .before .before .before .before .args .f)) (λ i. omega (arith, c .before .before .before .before .before .before .before .before .before .before .before .shared-slice-known2 .given i))) (c .before .before .before .before .enum-told3 .given .1) (c .before .before .checked .result) (c .before .before .checked .ensures .0), ((λ x. c .before .before .checked .ensures .1 .0 .0 (sym all ∙ x), c .before .before .checked .ensures .1 .0 .1), c .before .before .checked .ensures .1 .1))
+    let a = c .before .before .before .before .before .before .before .before .before .before .before .before .before .args in
+    let bytes = all-bytes (now (a .l)) (λ i. omega (arith, c .before .before .before .before .before .before .before .before .before .before .before .before .shared-slice-known .given i)) in
+    let more = all-bytes (now (a .f)) (λ i. omega (arith, c .before .before .before .before .before .before .before .before .before .before .before .shared-slice-known2 .given i)) in
+    let k = c .before .before .checked in
+    let r = by-search (now (a .l)) (now (a .f)) (a .start) (now (a .work)) (c .before .before .before .before .before .before .before .before .before .read-log .result) (c .before .before .before .before .before .before .before .before .before .read-log .ensures) bytes (c .before .before .before .before .before .before .before .enum-told .given .1) (c .before .before .before .before .before .before .read-formula .result) (c .before .before .before .before .before .before .read-formula .ensures) more (c .before .before .before .before .enum-told3 .given .1) _ (k .result) (k .ensures .0) in
+    record { answer = r .0; untouched = r .1; number = k .ensures .1 .0; within = k .ensures .1 .1 }
 
 pub search-spec : {M : Type 1} → statement M
 search-spec =

@@ -1,5 +1,6 @@
 -- `exports::hikwallu_analyse` meets its contract: what the analysis answers.
 use borrow.Author.Needs.{needs}
+use Rattle.exports.proofs.Numbers.{by-outcome}
 use Rattle.exports.proofs.hikwallu_analyse.Statement.{statement}
 use Rattle.exports.proofs.hikwallu_analyse.Tie as tie
 
@@ -17,8 +18,13 @@ same-length-2 c = search needs
 
 returns : tie.Need-returns
 returns c =
-    let a = c .before .before .before .before .before .analyse .ensures in
-    (rw (c .outcome-refusal .ensures, a .outcome), (a .rows, a .work))
+    let a = c .before .before .before .before .before .analyse in
+    record {
+      answer = rw (c .outcome-refusal .ensures, a .ensures .outcome);
+      rows-are = a .ensures .rows;
+      untouched = rw (c .outcome-refusal .ensures) (by-outcome _ _ (a .result) (a .ensures .untouched));
+      number = a .ensures .number;
+    }
 
 pub hikwallu-analyse-spec : {M : Type 1} → statement M
 hikwallu-analyse-spec =

@@ -12,7 +12,7 @@ formula-refusal-requires : tie.Need-formula-refusal-requires
 formula-refusal-requires c κs = search needs
 
 returns : tie.Need-returns
-returns c = λ ks e. c .formula-refusal .ensures ∙ ap exportedFormula (c .before .read-formula .ensures ks e)
+returns c = c .formula-refusal .ensures ∙ ap exportedFormula (c .before .read-formula .ensures)
 
 pub hikwallu-read-formula-spec : {M : Type 1} → statement M
 hikwallu-read-formula-spec =

@@ -1,5 +1,6 @@
 -- `exports::hikwallu_search` meets its contract: what the search answers.
 use borrow.Author.Needs.{needs}
+use Rattle.exports.proofs.Numbers.{by-search}
 use Rattle.exports.proofs.hikwallu_search.Statement.{statement}
 use Rattle.exports.proofs.hikwallu_search.Tie as tie
 
@@ -17,8 +18,13 @@ same-length c = search needs
 
 returns : tie.Need-returns
 returns c =
-    let s = c .before .before .before .before .before .before .before .before .search .ensures in
-    (rw (c .before .search-refusal .ensures, c .verdict-number .ensures, s .0), s .1 .0 .0)
+    let r = c .before .before .before .before .before .before .before .before .search in
+    record {
+      answer = rw (c .before .search-refusal .ensures, c .verdict-number .ensures, r .ensures .answer);
+      untouched = rw (c .before .search-refusal .ensures) (by-search _ _ (r .result .verdict) (r .ensures .untouched));
+      number = r .ensures .number;
+      within = r .ensures .within;
+    }
 
 pub hikwallu-search-spec : {M : Type 1} → statement M
 hikwallu-search-spec =

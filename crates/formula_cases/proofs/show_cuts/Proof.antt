@@ -12,31 +12,24 @@ Inv-loop n f k₀ k = (k ≤ n) × (length f ≡ 32)
 abbrev μ-loop : tie.MeasureT-loop
 μ-loop n f k₀ k = n - k
 
--- src/main.rt:51:5
 loop-holds : tie.Need-loop-holds Inv-loop μ-loop
 loop-holds c = search needs
 
--- src/main.rt:52:19
 slice-aggregate-show-part : tie.Need-slice-aggregate-show-part Inv-loop μ-loop
 slice-aggregate-show-part c = search needs
 
--- src/main.rt:52:9
 show-part-requires : tie.Need-show-part-requires Inv-loop μ-loop
 show-part-requires c κs = search needs
 
--- src/main.rt:53:9
 add-k : tie.Need-add-k Inv-loop μ-loop
 add-k c = search needs
 
--- src/main.rt:51:5
 loop-less : tie.Need-loop-less Inv-loop μ-loop
 loop-less c = search needs
 
--- src/main.rt:51:5
 loop-again : tie.Need-loop-again Inv-loop μ-loop
 loop-again c = search needs
 
--- src/main.rt:49:1
 returns : tie.Need-returns Inv-loop μ-loop
 returns c = search needs
 

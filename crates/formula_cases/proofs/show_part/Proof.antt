@@ -6,19 +6,15 @@ use borrow.Author.Needs.{needs}
 use Rattle.formula_cases.proofs.show_part.Statement.{statement}
 use Rattle.formula_cases.proofs.show_part.Tie as tie
 
--- src/main.rt:35:14
 slice-aggregate-show : tie.Need-slice-aggregate-show
 slice-aggregate-show c = sym (length-take-le (c .before .before .before .args .n) (now (c .before .before .before .args .f)) (c .before .if1 .taken))
 
--- src/main.rt:35:9
 show-requires : tie.Need-show-requires
 show-requires c κs = search needs
 
--- src/main.rt:33:1
 returns : tie.Need-returns
 returns c = search needs
 
--- src/main.rt:33:1
 returns-2 : tie.Need-returns-2
 returns-2 c = search needs
 

@@ -10,43 +10,33 @@ Inv-loop f n at₀ at = at ≤ n
 abbrev μ-loop : tie.MeasureT-loop
 μ-loop f n at₀ at = n - at
 
--- src/main.rt:57:5
 loop-holds : tie.Need-loop-holds Inv-loop μ-loop
 loop-holds c = search needs
 
--- src/main.rt:58:9
 show-set-requires : tie.Need-show-set-requires Inv-loop μ-loop
 show-set-requires c κs = search needs
 
--- src/main.rt:59:9
 show-set-requires-2 : tie.Need-show-set-requires-2 Inv-loop μ-loop
 show-set-requires-2 c κs = search needs
 
--- src/main.rt:60:9
 show-set-requires-3 : tie.Need-show-set-requires-3 Inv-loop μ-loop
 show-set-requires-3 c κs = search needs
 
--- src/main.rt:61:9
 show-set-requires-4 : tie.Need-show-set-requires-4 Inv-loop μ-loop
 show-set-requires-4 c κs = search needs
 
--- src/main.rt:62:9
 show-set-requires-5 : tie.Need-show-set-requires-5 Inv-loop μ-loop
 show-set-requires-5 c κs = search needs
 
--- src/main.rt:63:9
 add-at : tie.Need-add-at Inv-loop μ-loop
 add-at c = search needs
 
--- src/main.rt:57:5
 loop-less : tie.Need-loop-less Inv-loop μ-loop
 loop-less c = search needs
 
--- src/main.rt:57:5
 loop-again : tie.Need-loop-again Inv-loop μ-loop
 loop-again c = search needs
 
--- src/main.rt:55:1
 returns : tie.Need-returns Inv-loop μ-loop
 returns c = search needs
 

@@ -1,11 +1,10 @@
 -- `formula_reader::read_formula` meets its contract: a refused walk, bytes behind END, or what was gathered is judged.
-use mathlib.Core.Path.{sym, subst, _∙_, ap}
-use Prim.Native.Nat.{_-_}
+use mathlib.Core.Path.{_∙_, ap}
 use native.Mathlib.Omega.{arith}
+use Rattle.base.proofs.Lists.{all-bytes}
 use Rattle.formula.specs.Read.{refused}
-use Rattle.formula_reader.specs.Scan.{Scanned}
 use Rattle.formula_reader.specs.Answer.{answerOf, refusalIn, judgedWith}
-use Rattle.formula_reader.proofs.CodeAnswer.{bytes-of, answer-refused, answer-leftover, answer-judged}
+use Rattle.formula_reader.proofs.CodeAnswer.{answer-refused, answer-leftover, answer-judged}
 use borrow.Author.Needs.{needs}
 use Rattle.formula_reader.proofs.read_formula.Statement.{statement}
 use Rattle.formula_reader.proofs.read_formula.Tie as tie
@@ -26,10 +25,13 @@ refused-with-requires : tie.Need-refused-with-requires
 refused-with-requires c κs = search needs
 
 returns : tie.Need-returns
-returns c = λ kinds e.
-    let b = bytes-of (c .before .before .before .before .before .before .args .l .now) (λ i. omega (arith, c .before .before .before .before .before .shared-slice-known .given i)) in
-    let h = subst (λ n. Scanned n (c .before .before .before .before .before .before .args .l .now) (c .before .before .before .before .scan-file .result)) (sym e) (c .before .before .before .before .scan-file .ensures) in
-    c .refused-with .ensures ∙ ap (λ r. answerOf (refused r)) (c .before .refusal-in .ensures ∙ ap refusalIn (c .before .before .enum-told2 .given .1)) ∙ answer-refused kinds (c .before .before .before .before .before .before .args .l .now) b (c .before .before .before .before .scan-file .result) (c .before .before .enum-told2 .given .0 .0) h (c .before .before .enum-told2 .given .1)
+returns c =
+    let n = c .before .before .enum-told2 .given in
+    let k = c .before .before .before .before .scan-file in
+    let p = c .before .before .before .before .before in
+    let a = p .before .args in
+    let b = all-bytes (a .l .now) (λ i. omega (arith, p .shared-slice-known .given i)) in
+    c .refused-with .ensures ∙ ap (λ r. answerOf (refused r)) (c .before .refusal-in .ensures ∙ ap refusalIn (n .1)) ∙ answer-refused (a .fields) (a .l .now) b (k .result) (n .0 .0) (k .ensures) (n .1)
 
 add-behind : tie.Need-add-behind
 add-behind c = search needs
@@ -38,10 +40,13 @@ refused-with-requires-2 : tie.Need-refused-with-requires-2
 refused-with-requires-2 c κs = search needs
 
 returns-2 : tie.Need-returns-2
-returns-2 c = λ kinds e.
-    let b = bytes-of (c .before .before .before .before .before .before .before .before .args .l .now) (λ i. omega (arith, c .before .before .before .before .before .before .before .shared-slice-known .given i)) in
-    let h = subst (λ n. Scanned n (c .before .before .before .before .before .before .before .before .args .l .now) (c .before .before .before .before .before .before .scan-file .result)) (sym e) (c .before .before .before .before .before .before .scan-file .ensures) in
-    c .refused-with2 .ensures ∙ answer-leftover kinds (c .before .before .before .before .before .before .before .before .args .l .now) b (c .before .before .before .before .before .before .scan-file .result) h (c .before .before .before .before .enum-told .given .1) (c .before .if1 .taken)
+returns-2 c =
+    let e = c .before .before .before .before in
+    let k = e .before .before .scan-file in
+    let p = e .before .before .before in
+    let a = p .before .args in
+    let b = all-bytes (a .l .now) (λ i. omega (arith, p .shared-slice-known .given i)) in
+    c .refused-with2 .ensures ∙ answer-leftover (a .fields) (a .l .now) b (k .result) (k .ensures) (e .enum-told .given .1) (c .before .if1 .taken)
 
 add-lowest-of : tie.Need-add-lowest-of
 add-lowest-of c = search needs
@@ -59,10 +64,21 @@ judge-with-requires : tie.Need-judge-with-requires
 judge-with-requires c κs = search needs
 
 returns-3 : tie.Need-returns-3
-returns-3 c = λ kinds e.
-    let b = bytes-of (c .before .before .before .before .before .before .before .before .before .before .before .before .before .before .before .before .before .before .before .before .before .before .args .l .now) (λ i. omega (arith, c .before .before .before .before .before .before .before .before .before .before .before .before .before .before .before .before .before .before .before .before .before .shared-slice-known .given i)) in
-    let h = subst (λ n. Scanned n (c .before .before .before .before .before .before .before .before .before .before .before .before .before .before .before .before .before .before .before .before .before .before .args .l .now) (c .before .before .before .before .before .before .before .before .before .before .before .before .before .before .before .before .before .before .before .before .scan-file .result)) (sym e) (c .before .before .before .before .before .before .before .before .before .before .before .before .before .before .before .before .before .before .before .before .scan-file .ensures) in
-    c .judge-with .ensures ∙ ap (λ n. judgedWith (c .before .before .before .before .before .before .before .before .before .before .before .before .before .before .before .before .before .before .before .before .scan-file .result .draft) n (c .before .lowest-of2 .result)) (c .before .before .before .before .before .before .before .lowest-of .ensures) ∙ ap (judgedWith (c .before .before .before .before .before .before .before .before .before .before .before .before .before .before .before .before .before .before .before .before .scan-file .result .draft) _) (c .before .lowest-of2 .ensures) ∙ answer-judged kinds (c .before .before .before .before .before .before .before .before .before .before .before .before .before .before .before .before .before .before .before .before .before .before .args .l .now) b (c .before .before .before .before .before .before .before .before .before .before .before .before .before .before .before .before .before .before .before .before .scan-file .result) h (c .before .before .before .before .before .before .before .before .before .before .before .before .before .before .before .before .before .before .enum-told .given .1) (c .before .before .before .before .before .before .before .before .before .before .before .before .before .before .before .before .before .before .before .before .before .before .good .0 .0) (c .before .before .before .before .before .before .before .before .before .before .before .before .before .before .before .if1 .left) (c .before .before .before .free-of .result) (c .before .before .before .free-of .ensures)
+returns-3 c =
+    let o = c .before in
+    let f = o .before .before in
+    let l = f .before .before .before .before in
+    let i = l .before .before .before .before .before .before .before .before in
+    let e = i .before .before .before in
+    let k = e .before .before .scan-file in
+    let p = e .before .before .before in
+    let s = p .before in
+    let a = s .args in
+    let b = all-bytes (a .l .now) (λ n. omega (arith, p .shared-slice-known .given n)) in
+    c .judge-with .ensures
+    ∙ ap (λ n. judgedWith (k .result .draft) n (o .lowest-of2 .result)) (l .lowest-of .ensures)
+    ∙ ap (judgedWith (k .result .draft) _) (o .lowest-of2 .ensures)
+    ∙ answer-judged (a .fields) (a .l .now) b (k .result) (k .ensures) (e .enum-told .given .1) (s .good .0 .0) (i .if1 .left) (f .free-of .result) (f .free-of .ensures)
 
 pub read-formula-spec : {M : Type 1} → statement M
 read-formula-spec =

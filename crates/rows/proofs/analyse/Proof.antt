@@ -1,5 +1,5 @@
 -- `rows::analyse` meets its contract: the log is refused, or handed on.
-use Rattle.engine.proofs.Calls.{all-bytes}
+use Rattle.base.proofs.Lists.{all-bytes}
 use Rattle.rows.proofs.Calls.{refused-log, accepted-log, few-events}
 use denote.Ref.{now}
 use native.Mathlib.Omega.{arith}

@@ -3,8 +3,8 @@ use borrow.Author.Needs.{needs}
 use Rattle.rows.proofs.run_of.Statement.{statement}
 use Rattle.rows.proofs.run_of.Tie as tie
 
-capped-requires : tie.Need-capped-requires
-capped-requires c κs = search needs
+lower-requires : tie.Need-lower-requires
+lower-requires c κs = search needs
 
 last-of-requires : tie.Need-last-of-requires
 last-of-requires c κs = search needs
@@ -13,7 +13,7 @@ cast-t8 : tie.Need-cast-t8
 cast-t8 c = search needs
 
 returns : tie.Need-returns
-returns c = rw (c .before .before .last-of .ensures, c .before .before .before .before .capped .ensures)
+returns c = rw (c .before .before .last-of .ensures, c .before .before .before .before .lower .ensures)
 
 pub run-of-spec : {M : Type 1} → statement M
-run-of-spec = tie.close (tie.spec capped-requires last-of-requires cast-t8 returns)
+run-of-spec = tie.close (tie.spec lower-requires last-of-requires cast-t8 returns)

@@ -8,21 +8,28 @@ use Rattle.rows.proofs.with_formula.Statement.{statement}
 use Rattle.rows.proofs.with_formula.Tie as tie
 
 returns : tie.Need-returns
-returns c = λ g fm given. short-work g fm (now (c .before .before .before .before .before .before .args .work)) (now (c .before .before .before .before .before .before .args .rows)) (c .if1 .taken)
+returns c =
+    let a = c .before .before .before .before .before .before .args in
+    λ g fm given. short-work g fm (now (a .work)) (now (a .rows)) (c .if1 .taken)
 
 mul-needed : tie.Need-mul-needed
 mul-needed c = search needs
 
 returns-2 : tie.Need-returns-2
-returns-2 c = λ g fm given. short-rows g fm (now (c .before .before .before .before .before .before .before .before .args .work)) (now (c .before .before .before .before .before .before .before .before .args .rows)) (c .before .before .before .before .before .before .before .before .args .log .events) (given .events-are) (c .before .before .if1 .left) (c .if2 .taken)
+returns-2 c =
+    let b = c .before .before in
+    let a = b .before .before .before .before .before .before .args in
+    λ g fm given. short-rows g fm (now (a .work)) (now (a .rows)) (a .log .events) (given .events-are) (b .if1 .left) (c .if2 .taken)
 
 slots-of-requires : tie.Need-slots-of-requires
 slots-of-requires c κs = search needs
 
 all-starts-requires : tie.Need-all-starts-requires
 all-starts-requires c κs =
-    let s = slots-fit (length (now (c .before .before .before .before .before .before .before .before .before .before .before .args .work))) (c .before .before .before .before .before .if1 .left) in
-    (rw (c .before .before .slots-of .ensures) (s .0), rw (c .before .before .slots-of .ensures) (s .1), c .before .before .before .before .before .before .before .before .before .before .before .pre, c .before .before .before .if2 .left)
+    let a = c .before .before .before .before .before .before .before .before .before .before .before in
+    let n = c .before .before .slots-of .ensures in
+    let s = slots-fit (length (now (a .args .work))) (c .before .before .before .before .before .if1 .left) in
+    (rw n (s .0), rw n (s .1), a .pre, c .before .before .before .if2 .left)
 
 same-length : tie.Need-same-length
 same-length c = search needs
@@ -32,7 +39,9 @@ same-length-2 c = search needs
 
 returns-3 : tie.Need-returns-3
 returns-3 c =
-    λ g fm given. enough g fm (now (c .before .before .before .before .before .before .before .before .before .before .before .before .before .before .before .before .args .work)) (now (c .before .before .before .before .before .before .before .before .before .before .before .before .before .before .before .before .args .rows)) (c .before .before .before .before .before .before .before .before .before .before .before .before .before .before .before .before .args .log .events) (c .before .before .before .before .before .before .before .slots-of .result) _ _ _ (given .events-are) (c .before .before .before .before .before .before .before .before .before .before .if1 .left) (c .before .before .before .before .before .before .before .before .if2 .left) (c .before .before .before .before .before .before .before .slots-of .ensures) (c .before .before .before .before .all-starts .ensures g fm given)
+    let a = c .before .before .before .before .before .before .before .before .before .before .before .before .before .before .before .before .args in
+    let n = c .before .before .before .before .before .before .before .slots-of in
+    λ g fm given. enough g fm (now (a .work)) (now (a .rows)) (a .log .events) (n .result) _ _ _ (given .events-are) (c .before .before .before .before .before .before .before .before .before .before .if1 .left) (c .before .before .before .before .before .before .before .before .if2 .left) (n .ensures) (search needs) (c .before .before .before .before .all-starts .ensures g fm given)
 
 pub with-formula-spec : {M : Type 1} → statement M
 with-formula-spec =

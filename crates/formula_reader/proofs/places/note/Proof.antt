@@ -21,7 +21,7 @@ element-write-places c = search needs
 
 returns : tie.Need-returns
 unfolding noted
-returns c = rw (c .lower .ensures)
+returns c = rw (← (c .lower .ensures))
 
 pub note-spec : {M : Type 1} → statement M
 note-spec =
