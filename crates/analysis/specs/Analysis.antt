@@ -44,7 +44,7 @@ withFormula g (FormulaRead.accepted f) words rows = checked g f words rows
 withFormula g (FormulaRead.refused r) words rows = refusal r rows
 
 abbrev pub withLog : LogRead.Reading → List ℕ → ℕ → List ℕ → Analysed
-withLog (LogRead.accepted g) f words rows = withFormula g (FormulaRead.readFormula (g .fields) f) words rows
+withLog (LogRead.accepted g) f words rows = withFormula g (FormulaRead.readFormula (length (g .fields)) f) words rows
 withLog (LogRead.refused r) f words rows = refusal r rows
 
 -- The analysis: from the bytes of the log and the formula, the number of lent work words, the lent row words.

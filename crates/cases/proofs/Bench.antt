@@ -21,8 +21,9 @@ use Rattle.event_log.specs.Read as LogRead
 use Rattle.event_log.specs.Read.{draftOf, lastOf, falls, nextField, nextEvent, nextEnd, nextCommand, readLog}
 use Rattle.formula.specs.Formula.{CONST, ADD, SUB}
 use Rattle.formula.specs.Encode.{guardCommands, stepCommands, stateCommands, commands, encodeExpr, encodeClause, encodeCommand}
-use Rattle.formula.specs.Unbound.{binds, edgesFrom, mark, round, rounds, unbound, isUnbound}
+use Rattle.formula.specs.Unbound.{stepsOf, binds, edgesFrom, mark, round, rounds, unbound, isUnbound}
 use Rattle.formula.specs.Read as FormulaRead
+use Rattle.formula.specs.Lookup.{stepAt}
 use Rattle.formula.specs.Read.{opcode, operatorOf, kindOf, exprOpcode, over, exprWith, readExpr, next, gatherAll, assemble, firstLeaf, firstAbsent, firstUnbound, judge, afterEnd, readFormula}
 use Rattle.machine.specs.Configuration as Configuration
 use Rattle.machine.specs.Configuration.{same}
@@ -30,7 +31,7 @@ use Rattle.machine.specs.Guard.{value}
 use Rattle.machine.specs.Firing.{hold, leave, fires, fire}
 use Rattle.machine.specs.Expiry as Expiry
 use Rattle.machine.specs.Expiry.{expired}
-use Rattle.machine.specs.Machine.{stepOf, eventAt, latest, fireAt, expiredAt, committed, final, accepting}
+use Rattle.machine.specs.Machine.{eventAt, latest, fireAt, expiredAt, committed, final, accepting}
 use Rattle.runs.specs.Lists.{keep, gather, has, distinct}
 use Rattle.runs.specs.Order.{lex, order}
 use Rattle.runs.specs.Search as Runs
@@ -44,13 +45,13 @@ use Rattle.analysis.specs.declared.Outcome.the-variants.{Done, Refused as Outco
 use Rattle.analysis.specs.Rows.{named, tiedAlike, subsumes, subsumed, verdict, noneRow, row, rowsFrom}
 use Rattle.analysis.specs.Analysis as Analysis
 use Rattle.analysis.specs.Analysis.{Analysed, analysis}
-use Rattle.analysis.specs.Text as Text
-use Rattle.analysis.specs.Text.{ascii, digits, decimal, word, spaced, variables, details, lines, refusedLine, printed}
+use Rattle.text.specs.Text as Text
+use Rattle.text.specs.Text.{ascii, digits, decimal, word, spaced, variable, each, held, variables, details, lineIn, lines, refusedLine, printed}
 use Rattle.cases.proofs.Exchange.{exchange}
 
 -- every definition on the way from the bytes to an answer: what a case unfolds
 definitions : Unit {0}
-unfolding readLog LogRead.readFrom draftOf lastOf falls nextField nextEvent nextEnd nextCommand encodeField encodeEvent encodeBody bytesOf valueAt valuesFrom pad flatMap readFormula FormulaRead.readFrom FormulaRead.start opcode operatorOf kindOf exprOpcode over exprWith readExpr next gatherAll assemble firstLeaf firstAbsent firstUnbound judge afterEnd guardCommands stepCommands stateCommands commands encodeExpr encodeClause encodeCommand binds edgesFrom mark round rounds unbound isUnbound Configuration.start same hold leave fires fire stepOf eventAt latest fireAt expiredAt committed final accepting Expiry.rising Expiry.falling expired value keep gather has distinct lex order firing moves stays unended offers Runs.next endings lesser leastFrom least anyAlive hopeful waiting waitingCount scan origin search slotsOf Search.checked searchAnswer named tiedAlike subsumes subsumed verdict mask noneRow row rowsFrom Analysis.checked analysis ascii digits decimal word spaced variables details Text.line lines refusedLine printed
+unfolding readLog LogRead.readFrom draftOf lastOf falls nextField nextEvent nextEnd nextCommand encodeField encodeEvent encodeBody bytesOf valueAt valuesFrom pad flatMap readFormula FormulaRead.readFrom FormulaRead.start opcode operatorOf kindOf exprOpcode over exprWith readExpr next gatherAll assemble firstLeaf firstAbsent firstUnbound judge afterEnd guardCommands stepCommands stateCommands commands encodeExpr encodeClause encodeCommand binds edgesFrom mark round rounds unbound isUnbound Configuration.start same hold leave fires fire stepAt stepsOf eventAt latest fireAt expiredAt committed final accepting Expiry.rising Expiry.falling expired value keep gather has distinct lex order firing moves stays unended offers Runs.next endings lesser leastFrom least anyAlive hopeful waiting waitingCount scan origin search slotsOf Search.checked searchAnswer named tiedAlike subsumes subsumed verdict mask noneRow row rowsFrom Analysis.checked analysis ascii digits decimal word spaced variable each held variables details Text.line lineIn lines refusedLine printed
 definitions = tt
 
 -- bytes as the paper writes them, in hexadecimal, with spaces between

@@ -13,8 +13,9 @@ use Rattle.event_log.specs.Correct.{value, Correct}
 use Rattle.event_log.specs.Read.{readLog, accepted}
 use Rattle.event_log.proofs.Accepted.{encoding-is-accepted}
 use Rattle.formula.specs.Formula.{Formula, Step}
+use Rattle.formula.specs.Lookup.{stepAt}
 use Rattle.machine.specs.Configuration.{Config}
-use Rattle.machine.specs.Machine.{stepOf, eventAt, latest, fireAt, expiredBy, expiredAt}
+use Rattle.machine.specs.Machine.{eventAt, latest, fireAt, expiredBy, expiredAt}
 
 -- a list with its elements n and n + 1 exchanged
 abbrev pub exchangeAt : {A : Type 0} → ℕ → List A → List A
@@ -96,7 +97,7 @@ pub record Alike (g : Log) (m : ℕ) (h : Log) (n : ℕ) : Type 0 where
 
 alike : (g h : Log) (m n : ℕ) → g .fields ≡ h .fields → getD (g .events) m [] ≡ getD (h .events) n [] → Alike g m h n
 unfolding fireAt expiredAt eventAt latest
-alike g h m n p q = record { fires = λ f c k. rw q; expires = λ f c k. go c (stepOf f (c .state) k) }
+alike g h m n p q = record { fires = λ f c k. rw q; expires = λ f c k. go c (stepAt f (c .state) k) }
   where
     go : (c : Config) (s : Option Step) → expiredBy g s c (getD (g .events) m []) ≡ expiredBy h s c (getD (h .events) n [])
     go c none = refl

@@ -1,4 +1,4 @@
--- `analyser::main` is safe and ends: what was read of a file is a front part of its buffer.
+-- `analyser::main` is safe and ends: what was read of a file, and what is printed, are front parts of their buffers.
 use lib.Seq.{length-take-le}
 use mathlib.Core.Path.{sym}
 use borrow.Author.Needs.{needs}
@@ -20,12 +20,6 @@ slice-aggregate-load-2 c = search needs
 load-requires : tie.Need-load-requires
 load-requires c κs = search needs
 
-slice-aggregate-fail : tie.Need-slice-aggregate-fail
-slice-aggregate-fail c = search needs
-
-fail-requires : tie.Need-fail-requires
-fail-requires c κs = search needs
-
 returns : tie.Need-returns
 returns c = search needs
 
@@ -38,32 +32,50 @@ slice-aggregate-load-4 c = search needs
 load-requires-2 : tie.Need-load-requires-2
 load-requires-2 c κs = search needs
 
-slice-aggregate-fail-2 : tie.Need-slice-aggregate-fail-2
-slice-aggregate-fail-2 c = search needs
-
-fail-requires-2 : tie.Need-fail-requires-2
-fail-requires-2 c κs = search needs
-
 returns-2 : tie.Need-returns-2
 returns-2 c = search needs
+
+page-requires : tie.Need-page-requires
+page-requires c κs = search needs
 
 array-share-prefix-log : tie.Need-array-share-prefix-log
 array-share-prefix-log c = search needs
 
-slice-aggregate-report : tie.Need-slice-aggregate-report
-slice-aggregate-report c = sym (length-take-le _ _ (c .before .before .before .before .before .before .before .before .before .before .load .ensures))
+slice-aggregate-answer : tie.Need-slice-aggregate-answer
+slice-aggregate-answer c = sym (length-take-le _ _ (c .before .before .before .before .before .before .before .before .before .before .before .load .ensures))
 
 array-share-prefix-formula : tie.Need-array-share-prefix-formula
 array-share-prefix-formula c = search needs
 
-slice-aggregate-report-2 : tie.Need-slice-aggregate-report-2
-slice-aggregate-report-2 c = sym (length-take-le _ _ (c .before .before .before .before .before .load2 .ensures))
+slice-aggregate-answer-2 : tie.Need-slice-aggregate-answer-2
+slice-aggregate-answer-2 c = sym (length-take-le _ _ (c .before .before .before .before .before .before .load2 .ensures))
 
-report-requires : tie.Need-report-requires
-report-requires c κs = search needs
+slice-aggregate-answer-3 : tie.Need-slice-aggregate-answer-3
+slice-aggregate-answer-3 c = search needs
+
+answer-requires : tie.Need-answer-requires
+answer-requires c κs = search needs
+
+array-share-prefix-out : tie.Need-array-share-prefix-out
+array-share-prefix-out c = search needs
+
+slice-aggregate-write-all : tie.Need-slice-aggregate-write-all
+slice-aggregate-write-all c = sym (length-take-le _ _ (search needs))
+
+write-all-requires : tie.Need-write-all-requires
+write-all-requires c κs = search needs
+
+slice-aggregate-fail : tie.Need-slice-aggregate-fail
+slice-aggregate-fail c = search needs
+
+fail-requires : tie.Need-fail-requires
+fail-requires c κs = search needs
 
 returns-3 : tie.Need-returns-3
 returns-3 c = search needs
+
+returns-4 : tie.Need-returns-4
+returns-4 c = search needs
 
 pub main-spec : {M : Type 1} → statement M
 main-spec =
@@ -74,18 +86,22 @@ main-spec =
     slice-aggregate-load
     slice-aggregate-load-2
     load-requires
-    slice-aggregate-fail
-    fail-requires
     returns
     slice-aggregate-load-3
     slice-aggregate-load-4
     load-requires-2
-    slice-aggregate-fail-2
-    fail-requires-2
     returns-2
+    page-requires
     array-share-prefix-log
-    slice-aggregate-report
+    slice-aggregate-answer
     array-share-prefix-formula
-    slice-aggregate-report-2
-    report-requires
-    returns-3)
+    slice-aggregate-answer-2
+    slice-aggregate-answer-3
+    answer-requires
+    array-share-prefix-out
+    slice-aggregate-write-all
+    write-all-requires
+    slice-aggregate-fail
+    fail-requires
+    returns-3
+    returns-4)

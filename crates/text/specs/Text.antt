@@ -10,16 +10,16 @@ use lib.Dec.{eqb, ltb}
 use Rattle.refusal.specs.declared.Report.{Report}
 use Rattle.refusal.specs.Refusals.{reportOf}
 use Rattle.event_log.specs.Read.{Reading, accepted, refused, readLog}
 use Rattle.analysis.specs.declared.Outcome.{Outcome}
 use Rattle.analysis.specs.declared.Outcome.the-variants.{Done, Refused}
 use Rattle.analysis.specs.Analysis.{analysis}
 
 -- the bytes of a quoted text of plain characters
 unfoldable pub ascii : String → List ℕ
 ascii Quoted.[] = []
 ascii (Quoted._∷_ c s) = code c ∷ ascii s
 
--- a number in decimal digits, for at most so many digits: 20 are enough for 64 bits
+-- a number in decimal digits, at most k of them; 20 are enough for 64 bits
 unfoldable pub digits : ℕ → ℕ → List ℕ
 digits zero n = []
 digits (suc k) n = cond (ltb n 10) [] (digits k (n / 10)) ++ ((48 + n % 10) ∷ [])
@@ -38,31 +38,44 @@ word (suc (suc (suc v))) = ascii "rejected"
 unfoldable pub spaced : ℕ → List ℕ
 spaced n = ascii " " ++ decimal n
 
--- "each held variable by rising number, as v, its number, = and its value": the k variables of a row from v on
-unfoldable pub variables : List ℕ → ℕ → ℕ → List ℕ
-variables r zero v = []
-variables r (suc k) v =
-    cond (eqb (getD r 3 0 / 2 ^ v % 2) 1) (ascii " v" ++ (decimal v ++ (ascii "=" ++ decimal (getD r (4 + v) 0)))) [] ++ variables r k (suc v)
+-- "as v, its number, = and its value": variable v, behind a space
+unfoldable pub variable : ℕ → ℕ → List ℕ
+variable v x = ascii " v" ++ (decimal v ++ (ascii "=" ++ decimal x))
+
+-- a text for each of k numbers from n on, in a row
+unfoldable pub each : (ℕ → List ℕ) → ℕ → ℕ → List ℕ
+each text zero n = []
+each text (suc k) n = text n ++ each text k (suc n)
+
+-- "each held variable by rising number", of a row: its fourth word is the mask, its last eight are the values
+unfoldable pub held : List ℕ → ℕ → List ℕ
+held r v = cond (eqb (getD r 3 0 / 2 ^ v % 2) 1) (variable v (getD r (4 + v) 0)) []
+
+unfoldable pub variables : List ℕ → List ℕ
+variables r = each (held r) 8 0
 
 -- "unless none, last event, step count, then each held variable"
 unfoldable pub details : List ℕ → List ℕ
-details r = cond (eqb (getD r 0 0) 0) [] (spaced (getD r 1 0) ++ (spaced (getD r 2 0) ++ variables r 8 0))
+details r = cond (eqb (getD r 0 0) 0) [] (spaced (getD r 1 0) ++ (spaced (getD r 2 0) ++ variables r))
 
 -- "number, verdict word and" the details: the line of event n, from the 12 words of its row
 unfoldable pub line : ℕ → List ℕ → List ℕ
 line n r = decimal n ++ (ascii " " ++ (word (getD r 0 0) ++ (details r ++ ascii "\n")))
 
--- the lines of so many events from n on
-unfoldable pub lines : ℕ → ℕ → List ℕ → List ℕ
-lines zero n rows = []
-lines (suc k) n rows = line n (take 12 rows) ++ lines k (suc n) (drop 12 rows)
+-- "one line an event": of event n, from the rows of all; of so many events
+unfoldable pub lineIn : List ℕ → ℕ → List ℕ
+lineIn rows n = line n (take 12 (drop (n * 12) rows))
+
+unfoldable pub lines : ℕ → List ℕ → List ℕ
+lines events rows = each (lineIn rows) events 0
 
 -- "A refusal prints `refused` and its three numbers only"
 unfoldable pub refusedLine : Report → List ℕ
 refusedLine t = ascii "refused" ++ (spaced (t .file) ++ (spaced (t .number) ++ (spaced (t .place) ++ ascii "\n")))
 
+-- all lines, or the refusal's alone
 abbrev pub textOf : ℕ → Outcome → List ℕ → List ℕ
-textOf events Done rows = lines events 0 rows
+textOf events Done rows = lines events rows
 textOf events (Refused r) rows = refusedLine (reportOf r)
 
 -- the number of events of a log that is accepted
@@ -70,9 +83,8 @@ abbrev pub eventsIn : Reading → ℕ
 eventsIn (accepted g) = length (g .events)
 eventsIn (refused r) = 0
 
--- What the program prints for two files: it "lends 64 seats", and 12 row words an event.
+-- What the program prints for two files: it "lends 64 seats", and 12 row words for each of the 1,024 events that a log may have.
 unfoldable pub printed : List ℕ → List ℕ → List ℕ
 printed l f =
-    let events = eventsIn (readLog l) in
-    let a = analysis l f (64 * 192) (replicate (12 * events) 0) in
-    textOf events (a .outcome) (a .rows)
+    let a = analysis l f (64 * 192) (replicate (12 * 1024) 0) in
+    textOf (eventsIn (readLog l)) (a .outcome) (a .rows)
