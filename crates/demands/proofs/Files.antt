@@ -1,0 +1,148 @@
+-- The first and the second demand on files: whatever meets the contract of `read_log` or `read_formula` tells a refusal by file, number and place,
+-- and accepts exactly the encodings of correct logs and formulas, each read as the one that it encodes.
+use Prim.Native.Nat.{ℕ, suc, _<_, _≤_}
+use mathlib.Core.Path.{_≡_, refl, sym, ap, _∙_}
+use mathlib.Core.Bool.{true}
+use mathlib.Core.List.{List, [], _∷_, _++_, flatMap, append-assoc}
+use native.Mathlib.Omega.{arith}
+use borrow.Author.Tests.{eqb-true, eq-eqb}
+use lib.Dec.{eqb}
+use native.Mathlib.Nat.{le-of-lt}
+use lib.ListN.{length, getD, take, drop, take-append-drop}
+use lib.Seq.{split-at, length-take-le}
+use Rattle.base.specs.Lists.{Bytes}
+use Rattle.refusal.specs.declared.Refusal.{Refusal}
+use Rattle.refusal.specs.Refusals.{reportOf}
+use Rattle.event_log.specs.declared.LogReading.{LogReading}
+use Rattle.event_log.specs.declared.Verdict.the-variants as LogIs
+use Rattle.event_log.specs.Log.{Log}
+use Rattle.event_log.specs.Encode as LogEncode
+use Rattle.event_log.specs.Read as LogRead
+use Rattle.event_log.proofs.Encoding.{at-event}
+use Rattle.event_log.proofs.Accepted as LogLaws
+use Rattle.event_log.proofs.Answers.{log-taken}
+use Rattle.event_log.proofs.Refusals.{LogRefusal, log-refusal}
+use Rattle.formula.specs.Formula.{Formula}
+use Rattle.formula.specs.Read as FormulaRead
+use Rattle.formula.proofs.Basics.{all-left}
+use Rattle.formula.proofs.Reading as FormulaLaws
+use Rattle.formula.proofs.Refusals.{FormulaRefusal, formula-refusal}
+use Rattle.formula_reader.specs.declared.FormulaReading.{FormulaReading}
+use Rattle.formula_reader.specs.declared.Verdict.the-variants as FormulaIs
+use Rattle.formula_reader.specs.Answer as FormulaAnswer
+use Rattle.formula_reader.proofs.Answers.{formula-taken}
+use Rattle.runs.specs.Lists.{has}
+use Rattle.runs.proofs.Lists.{has-in}
+use Rattle.machine.specs.Machine.{eventAt}
+use Rattle.demands.specs.Demands.{IsLog, IsFormula, Told, FirstOfLog, FirstOfFormula, SomeLog, SomeFormula, Recorded, SecondOfLog, SecondOfFormula}
+
+-- FIRST DEMAND
+
+tell : {file n : ℕ} {allowed : List ℕ} {why : Refusal} → reportOf why .file ≡ file → has eqb (reportOf why .number) allowed ≡ true → reportOf why .place ≤ n → Told file allowed n why
+tell f i p = record { names-file = f; names-number = has-in eqb eqb-true (λ k. eq-eqb k k refl) _ _ i; names-place = omega arith }
+
+log-told : (l : List ℕ) (r : LogReading) (why : Refusal) → r .verdict ≡ LogIs.Refused why → LogRefusal (length l) why → FirstOfLog l r
+unfolding has
+log-told l r why v (LogRefusal.cut-short h) = FirstOfLog.refused why v (tell refl refl h)
+log-told l r why v (LogRefusal.foreign h) = FirstOfLog.refused why v (tell refl refl h)
+log-told l r why v (LogRefusal.value h) = FirstOfLog.refused why v (tell refl refl h)
+log-told l r why v (LogRefusal.surplus h) = FirstOfLog.refused why v (tell refl refl h)
+log-told l r why v (LogRefusal.leftover h) = FirstOfLog.refused why v (tell refl refl h)
+log-told l r why v (LogRefusal.step-back h) = FirstOfLog.refused why v (tell refl refl h)
+
+-- A log is accepted, or refused with file 1, a number from 1 to 6 and a place.
+pub log-first : (l : List ℕ) (r : LogReading) → LogRead.ReadsLog l r → FirstOfLog l r
+unfolding LogRead.answerOf
+log-first l r reads = go (LogRead.readLog l) refl reads
+  where
+    go : (x : LogRead.Reading) → LogRead.readLog l ≡ x → r ≡ LogRead.answerOf x → FirstOfLog l r
+    go (LogRead.accepted g) q a = FirstOfLog.accepted (ap (λ (s : LogReading). s .verdict) a)
+    go (LogRead.refused why) q a = log-told l r why (ap (λ (s : LogReading). s .verdict) a) (log-refusal l why q)
+
+formula-told : (f : List ℕ) (r : FormulaReading) (why : Refusal) → r .verdict ≡ FormulaIs.Refused why → FormulaRefusal (length f) why → FirstOfFormula f r
+unfolding has
+formula-told f r why v (FormulaRefusal.cut-short h) = FirstOfFormula.refused why v (tell refl refl h)
+formula-told f r why v (FormulaRefusal.foreign h) = FirstOfFormula.refused why v (tell refl refl h)
+formula-told f r why v (FormulaRefusal.value h) = FirstOfFormula.refused why v (tell refl refl h)
+formula-told f r why v (FormulaRefusal.surplus h) = FirstOfFormula.refused why v (tell refl refl h)
+formula-told f r why v (FormulaRefusal.leftover h) = FirstOfFormula.refused why v (tell refl refl h)
+formula-told f r why v FormulaRefusal.dead-start = FirstOfFormula.refused why v (tell refl refl (omega arith))
+formula-told f r why v (FormulaRefusal.unbound h) = FirstOfFormula.refused why v (tell refl refl h)
+
+-- A formula is accepted, or refused with file 2, a number from 1 to 5, 7 or 8, and a place.
+pub formula-first : (f : List ℕ) (fields : ℕ) (r : FormulaReading) → FormulaAnswer.ReadsFormula f fields r → FirstOfFormula f r
+unfolding FormulaAnswer.answerOf
+formula-first f fields r reads = go (FormulaRead.readFormula fields f) refl reads
+  where
+    go : (x : FormulaRead.Reading) → FormulaRead.readFormula fields f ≡ x → r ≡ FormulaAnswer.answerOf x → FirstOfFormula f r
+    go (FormulaRead.accepted g) q a = FirstOfFormula.accepted (ap (λ (s : FormulaReading). s .verdict) a)
+    go (FormulaRead.refused why) q a = formula-told f r why (ap (λ (s : FormulaReading). s .verdict) a) (formula-refusal fields f why q)
+
+-- SECOND DEMAND
+
+module _ (l : List ℕ) (r : LogReading) (reads : LogRead.ReadsLog l r) where
+  -- an accepted log is the encoding of a correct one
+  accepted-log : Bytes l → r .verdict ≡ LogIs.Accepted → SomeLog l
+  accepted-log bytes v =
+      let t = log-taken (LogRead.readLog l) (ap (λ (x : LogReading). x .verdict) (sym reads) ∙ v) in
+      let k = LogLaws.accepted-is-encoding l (t .log) bytes (t .is) in
+      record { log = t .log; is = record { correct = k .1; encoded = k .0 } }
+
+  -- the encoding of a correct log is answered as that log
+  log-answer : (g : Log) → IsLog l g → r ≡ LogRead.answerOf (LogRead.accepted g)
+  log-answer g is = reads ∙ ap LogRead.answerOf (ap LogRead.readLog (is .encoded) ∙ LogLaws.encoding-is-accepted g (is .correct))
+
+-- event n stands behind the fields and the n events before it
+log-recorded : (l : List ℕ) (g : Log) → IsLog l g → (n : ℕ) → n < length (g .events) → Recorded l g n
+unfolding eventAt LogEncode.encodeBody
+log-recorded l g is n h =
+    let es = g .events in
+    let e = is .encoded ∙ at-event g (take n es) (getD es n []) (drop (suc n) es) (split-at es n [] h) in
+    record {
+      before = take n es;
+      behind = flatMap LogEncode.encodeEvent (drop (suc n) es) ++ (0 ∷ []);
+      count = length-take-le n es (le-of-lt h);
+      whole = all-left _ (take n es) (drop n es) (rw (take-append-drop n es) (is .correct .one-per-field));
+      stands = rw append-assoc at e;
+    }
+
+-- A log is accepted exactly when it is the encoding of a correct one, and read as that one, its events in recorded order.
+pub log-second : (l : List ℕ) (r : LogReading) → Bytes l → LogRead.ReadsLog l r → SecondOfLog l r
+unfolding LogRead.answerOf
+log-second l r bytes reads =
+    let answer : (g : Log) → IsLog l g → r ≡ LogRead.answerOf (LogRead.accepted g) = log-answer l r reads in
+    record {
+      accepts = (accepted-log l r reads bytes, λ s. ap (λ (x : LogReading). x .verdict) (answer (s .log) (s .is)));
+      one = λ g h i j. LogLaws.encode-once g h (i .correct) (j .correct) (sym (i .encoded) ∙ j .encoded);
+      fields = λ g i. ap (λ (x : LogReading). x .fields) (answer g i);
+      rising = λ g i. ap (λ (x : LogReading). x .rises) (answer g i);
+      events = λ g i. ap (λ (x : LogReading). x .events) (answer g i);
+      first = λ g i. ap (λ (x : LogReading). x .first) (answer g i);
+      recorded = log-recorded l;
+    }
+
+module _ (f : List ℕ) (fields : ℕ) (r : FormulaReading) (reads : FormulaAnswer.ReadsFormula f fields r) where
+  -- an accepted formula is the encoding of a correct one
+  accepted-formula : Bytes f → r .verdict ≡ FormulaIs.Accepted → SomeFormula fields f
+  accepted-formula bytes v =
+      let t = formula-taken (FormulaRead.readFormula fields f) (ap (λ (x : FormulaReading). x .verdict) (sym reads) ∙ v) in
+      let k = FormulaLaws.accepted-correct fields f (t .formula) bytes (t .is) in
+      record { formula = t .formula; is = record { correct = k .1; encoded = k .0 } }
+
+  -- the encoding of a correct formula is answered as that formula
+  formula-answer : (g : Formula) → IsFormula fields f g → r ≡ FormulaAnswer.answerOf (FormulaRead.accepted g)
+  formula-answer g is = reads ∙ ap FormulaAnswer.answerOf (ap (FormulaRead.readFormula fields) (is .encoded) ∙ FormulaLaws.correct-accepted fields g (is .correct))
+
+-- A formula is accepted exactly when it is the encoding of a correct one, and read as that one.
+pub formula-second : (f : List ℕ) (fields : ℕ) (r : FormulaReading) → Bytes f → FormulaAnswer.ReadsFormula f fields r → SecondOfFormula f fields r
+unfolding FormulaAnswer.answerOf
+formula-second f fields r bytes reads =
+    let answer : (g : Formula) → IsFormula fields f g → r ≡ FormulaAnswer.answerOf (FormulaRead.accepted g) = formula-answer f fields r reads in
+    record {
+      accepts = (accepted-formula f fields r reads bytes, λ s. ap (λ (x : FormulaReading). x .verdict) (answer (s .formula) (s .is)));
+      one = λ g h i j. FormulaLaws.encode-injective fields g h (i .correct) (j .correct) (sym (i .encoded) ∙ j .encoded);
+      states = λ g i. ap (λ (x : FormulaReading). x .states) (answer g i);
+      state-kinds = λ g i. ap (λ (x : FormulaReading). x .kinds) (answer g i);
+      steps = λ g i. ap (λ (x : FormulaReading). x .table) (answer g i);
+      tied = λ g i. ap (λ (x : FormulaReading). x .tied) (answer g i);
+    }

@@ -1,0 +1,2 @@
+-- The three demands, stated over the public entries.
+pub mod Demands

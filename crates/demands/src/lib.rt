@@ -1,0 +1,1 @@
+// The three demands as theorems about the public entries; no code.
