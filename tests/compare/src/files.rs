@@ -115,6 +115,29 @@ pub fn longest(over: usize) -> Pair {
     }
 }
 
+/// The longest text: the largest number of events, each of which is a run
+/// that holds eight values of ten digits; half of them accept, half reject.
+pub fn wordy() -> Pair {
+    let mut parts: Vec<Vec<u8>> = [1, 0, 0, 0, 0, 0, 0, 0].map(field).to_vec();
+    let events = MOST_EVENTS as u32;
+    for number in 0..events {
+        let last = u32::MAX - events + 1 + number;
+        let values = [0, 1, 2, 3, 4, 5, 6, 7].map(|place| last - place * 400_000_000);
+        parts.push(event(&values));
+    }
+    let binds: Vec<Vec<u8>> = (0..8).map(|number| bind(number, 7 - number)).collect();
+    let half = constant(u32::MAX - events / 2);
+    let formula = file(&[
+        join(&[state(0), step(1), binds.concat()]),
+        guard(op(LESS, &[var(7), half])),
+        join(&[step(2), binds.concat(), state(2), state(3)]),
+    ]);
+    Pair {
+        log: file(&parts),
+        formula,
+    }
+}
+
 /// One configuration more an event, none dropped: so many events need so many
 /// seats.
 pub fn crowd(events: usize) -> Pair {

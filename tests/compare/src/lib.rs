@@ -10,6 +10,7 @@ pub mod files;
 pub mod guards;
 pub mod heavy;
 pub mod lent;
+pub mod page;
 pub mod product;
 pub mod program;
 pub mod rounds;

@@ -5,6 +5,7 @@
 //! the folder and ends with status 1.
 
 use compare::checks::{Check, Comparison, Disagreement};
+use compare::page::{self, Example};
 use compare::program::Runner;
 use compare::rounds;
 use std::ops::Range;
@@ -90,6 +91,7 @@ fn with_seed(check: Check, seed: u64) -> Check {
 fn fixed() -> Result<String, Disagreement> {
     #[cfg(not(feature = "fake"))]
     compare::stack::small();
+    page::calls(&page_examples()?)?;
     let mut comparison = Comparison::default();
     rounds::limits(&mut comparison)?;
     rounds::spoiled(&mut comparison)?;
@@ -100,6 +102,10 @@ fn fixed() -> Result<String, Disagreement> {
         Some(missing) => Err(without_files(format!("no case reaches {missing}"))),
         None => Ok(comparison.counts.to_string()),
     }
+}
+
+fn page_examples() -> Result<Vec<Example>, Disagreement> {
+    page::examples().map_err(|cause| without_files(format!("docs/FORMAT.md: {cause}")))
 }
 
 /// What went wrong, where no file shows it.
@@ -134,12 +140,17 @@ fn run_program(program: &str, seeds: Range<u64>) -> Result<String, Disagreement>
         }
     };
     runner.fixed()?;
+    runner.page(&page_examples()?)?;
+    if runner.long == 0 {
+        return Err(without_files(String::from("no run prints a long text")));
+    }
     for seed in seeds {
         with_seed(runner.rolled(seed), seed)?;
     }
     Ok(format!(
-        "{} runs of the program agree, {} lines",
-        runner.runs, runner.lines
+        "{} runs of the program agree, {} lines; {} with 1,024 rows of eight ten-digit values; \
+         {} examples of docs/FORMAT.md",
+        runner.runs, runner.lines, runner.long, runner.examples
     ))
 }
 

@@ -4,6 +4,8 @@
 use crate::checks::{Check, Disagreement};
 use crate::files::{self, Pair};
 use crate::guards;
+use crate::page::{Call, Example};
+use reference::log::MOST_EVENTS;
 use reference::program::text;
 use reference::random;
 use std::io;
@@ -18,6 +20,10 @@ pub struct Runner {
     folder: PathBuf,
     pub runs: usize,
     pub lines: usize,
+    /// Runs with a line for each of 1,024 events, all of them long ones.
+    pub long: usize,
+    /// Examples of docs/FORMAT.md.
+    pub examples: usize,
 }
 
 impl Runner {
@@ -30,6 +36,8 @@ impl Runner {
             folder,
             runs: 0,
             lines: 0,
+            long: 0,
+            examples: 0,
         })
     }
 
@@ -40,12 +48,36 @@ impl Runner {
             self.long(&pair)?;
             self.run(Some(pair.log), Some(pair.formula))?;
         }
-        for pair in [files::everything(), files::longest(0), files::longest(1)] {
+        let pairs = [
+            files::everything(),
+            files::longest(0),
+            files::longest(1),
+            files::wordy(),
+        ];
+        for pair in pairs {
             self.run(Some(pair.log), Some(pair.formula))?;
         }
         for events in [64, 65] {
             let pair = files::crowd(events);
             self.run(Some(pair.log), Some(pair.formula))?;
+        }
+        Ok(())
+    }
+
+    /// The page's examples: the program prints what the page and the
+    /// reference say.
+    pub fn page(&mut self, examples: &[Example]) -> Check {
+        for example in examples
+            .iter()
+            .filter(|example| example.call == Call::Program)
+        {
+            let Pair { log, formula } = example.pair.clone();
+            let wanted = text(&log, &formula);
+            if wanted != example.answer {
+                return Err(example.differ(&wanted));
+            }
+            self.run(Some(log), Some(formula))?;
+            self.examples += 1;
         }
         Ok(())
     }
@@ -85,6 +117,7 @@ impl Runner {
         let wanted = text(&log, &formula);
         self.runs += 1;
         self.lines += wanted.lines().count();
+        self.long += usize::from(is_long(&wanted));
         match answer {
             Ok(answer) if answer == wanted => Ok(()),
             other => Err(Disagreement {
@@ -127,6 +160,13 @@ fn put(path: &Path, content: &Content) -> io::Result<()> {
         None if path.exists() => std::fs::remove_file(path),
         None => Ok(()),
     }
+}
+
+/// Is there a line for each of 1,024 events, with eight values of ten digits?
+fn is_long(text: &str) -> bool {
+    let is_ten = |word: &&str| word.starts_with('v') && word.len() == "v0=4294967295".len();
+    let ten = |line: &str| line.split(' ').filter(is_ten).count();
+    text.lines().count() == MOST_EVENTS && text.lines().all(|line| ten(line) == 8)
 }
 
 /// The first line that differs.
