@@ -7,7 +7,7 @@ use Rattle.refusal.specs.declared.Refusal.{Refusal}
 use Rattle.refusal.specs.declared.Refusal.the-variants.{CutShort, Foreign, Value, Surplus, Leftover, StepBack, DeadStart, Unbound, Outside, Short, Crowded}
 use Rattle.refusal.specs.declared.Report.{Report}
 
--- "the file (1 log, 2 formula": a refusal of the call names no file, and its line says 3
+-- "the file (1 log, 2 formula, 3 the call)": the two that are files; the lines of the call's refusals say 3 themselves
 abbrev pub fileNumber : File → ℕ
 fileNumber Log = 1
 fileNumber Formula = 2
