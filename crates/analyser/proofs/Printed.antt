@@ -18,12 +18,12 @@ use Rattle.text.specs.Text.{lines, refusedLine, textOf, eventsIn, printed}
 -- the events that the reader counts are those of the log
 pub events-are : (r : Reading) → answerOf r .events ≡ eventsIn r
 unfolding answerOf
-events-are (accepted g) = refl
+events-are (accepted t) = refl
 events-are (refused r) = refl
 
 -- an accepted log has at most 1,024 events
 few : (l : List ℕ) → Bytes l → (r : Reading) → readLog l ≡ r → eventsIn r ≤ 1024
-few l b (accepted g) e = accepted-is-encoding l g b e .1 .most-events
+few l b (accepted t) e = accepted-is-encoding l t b e .1 .recorded .most-events
 few l b (refused r) e = omega arith
 
 pub few-events : (l : List ℕ) → Bytes l → eventsIn (readLog l) ≤ 1024

@@ -5,7 +5,7 @@ ghost use mathlib.Core.Path.{_≡_};
 ghost use Prim.Native.Nat.{_+_, _≤_};
 ghost use lib.ListN.{length};
 ghost use Rattle.refusal.specs.Refusals.{reportOf};
-ghost use Rattle.text.specs.Adds.{Adds};
+ghost use Rattle.text.specs.inner.Adds.{Adds};
 ghost use Rattle.text.specs.Text.{line, lines, refusedLine, printed};
 use libc::STDOUT_FILENO;
 use refusal::Refusal;
@@ -129,7 +129,7 @@ fn answer(l: &[u8], f: &[u8], out: &mut [u8]) -> usize
 {
     let mut work = [0u32; 12288];
     let mut rows = [0u32; 12288];
-    let outcome = rows::analyse(l, f, &mut work, &mut rows);
+    let outcome = analysis_code::analyse(l, f, &mut work, &mut rows);
     match outcome {
         Outcome::Done => {
             let reading = event_log::read_log(l);

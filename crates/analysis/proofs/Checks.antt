@@ -6,11 +6,11 @@ use borrow.Author.Tests.{lt-ltb, le-ltb}
 use lib.ListN.{length}
 use Rattle.refusal.specs.declared.Refusal.{Refusal}
 use Rattle.refusal.specs.declared.Refusal.the-variants.{Short}
-use Rattle.event_log.specs.Log.{Log}
+use Rattle.event_log.specs.File.{LogFile, logOf}
 use Rattle.event_log.specs.Read as LogRead
 use Rattle.formula.specs.Formula.{Formula}
 use Rattle.formula.specs.Read as FormulaRead
-use Rattle.runs.specs.Search.{search}
+use Rattle.runs.specs.inner.Search.{search}
 use Rattle.machine.specs.Machine.{machine}
 use Rattle.search.specs.Search.{slotsOf}
 use Rattle.analysis.specs.Rows.{rowsFrom}
@@ -21,13 +21,13 @@ module _ (l f : List ℕ) (words : ℕ) (rows : List ℕ) where
   unfolding analysis
   bad-log why e = rw e
 
-  module _ (g : Log) (log-read : LogRead.readLog l ≡ LogRead.accepted g) where
-    pub bad-formula : (why : Refusal) → FormulaRead.readFormula (length (g .fields)) f ≡ FormulaRead.refused why → analysis l f words rows ≡ refusal why rows
+  module _ (t : LogFile) (log-read : LogRead.readLog l ≡ LogRead.accepted t) where
+    pub bad-formula : (why : Refusal) → FormulaRead.readFormula (length (t .fields)) f ≡ FormulaRead.refused why → analysis l f words rows ≡ refusal why rows
     unfolding analysis
     bad-formula why q = rw (log-read, q)
 
-    module _ (fm : Formula) (formula-read : FormulaRead.readFormula (length (g .fields)) f ≡ FormulaRead.accepted fm) where
-      both-read : analysis l f words rows ≡ checked g fm words rows
+    module _ (fm : Formula) (formula-read : FormulaRead.readFormula (length (t .fields)) f ≡ FormulaRead.accepted fm) where
+      both-read : analysis l f words rows ≡ checked (logOf t) fm words rows
       unfolding analysis
       both-read = rw (log-read, formula-read)
 
@@ -37,11 +37,13 @@ module _ (l f : List ℕ) (words : ℕ) (rows : List ℕ) where
       short-work h = both-read ∙ rw (lt-ltb words 192 h)
 
       -- 10 for rows, where the work words are enough
-      pub short-rows : 192 ≤ words → length rows < 12 * length (g .events) → analysis l f words rows ≡ refusal (Short (12 * length (g .events))) rows
+      pub short-rows : 192 ≤ words → length rows < 12 * length ((logOf t) .events)
+          → analysis l f words rows ≡ refusal (Short (12 * length ((logOf t) .events))) rows
       unfolding checked
-      short-rows h k = both-read ∙ rw (le-ltb words 192 h, lt-ltb (length rows) (12 * length (g .events)) k)
+      short-rows h k = both-read ∙ rw (le-ltb words 192 h, lt-ltb (length rows) (12 * length ((logOf t) .events)) k)
 
       -- then the starts are searched
-      pub analysed : 192 ≤ words → 12 * length (g .events) ≤ length rows → analysis l f words rows ≡ writtenInto (rowsFrom g fm (search (machine g fm) (slotsOf words)) (length (g .events)) 0 []) rows
+      pub analysed : 192 ≤ words → 12 * length ((logOf t) .events) ≤ length rows
+          → analysis l f words rows ≡ writtenInto (rowsFrom (logOf t) fm (search (machine (logOf t) fm) (slotsOf words)) (length ((logOf t) .events)) 0 []) rows
       unfolding checked
-      analysed h k = both-read ∙ rw (le-ltb words 192 h, le-ltb (length rows) (12 * length (g .events)) k)
+      analysed h k = both-read ∙ rw (le-ltb words 192 h, le-ltb (length rows) (12 * length ((logOf t) .events)) k)

@@ -16,19 +16,21 @@ use Rattle.event_log.specs.Log.{Log}
 use Rattle.formula.specs.Formula.{Formula}
 use Rattle.runs.specs.Lists.{In}
 use Rattle.runs.specs.Run.{Trail}
-use Rattle.runs.specs.Search.{Answer, found, absent, crowded, search}
+use Rattle.runs.specs.inner.Search.{search}
+use Rattle.runs.specs.Answer.{Answer, found, absent, crowded}
 use Rattle.runs.specs.Demand as Runs
 use Rattle.machine.specs.Configuration.{Config}
 use Rattle.machine.specs.Machine.{machine, accepting}
 use Rattle.machine.proofs.Machine.{Premises}
 use Rattle.search.specs.Search.{slotsOf}
-use Rattle.search.specs.Demand.{Names}
+use Rattle.search.specs.inner.Demand.{Names}
 use Rattle.search.proofs.Premises.{Accepted, accepted-premises}
 use Rattle.search.proofs.Demand.{met}
 use Rattle.analysis.specs.declared.Outcome.the-variants.{Done, Refused}
 use Rattle.analysis.specs.Rows.{NamedRun, named, verdict, noneRow, row, Written, all, upto, before, one, rowsFrom}
 use Rattle.analysis.specs.Analysis.{writtenInto, analysis}
-use Rattle.analysis.specs.Demand.{rowAt, Row, CrowdedFrom, FirstCrowded, Demand}
+use Rattle.analysis.specs.Call.{rowAt}
+use Rattle.analysis.specs.inner.Demand.{Row, CrowdedFrom, FirstCrowded, Demand}
 use Rattle.analysis.proofs.Checks.{analysed}
 use Rattle.analysis.proofs.Row.{Source, Known, one-named, row-none, row-found}
 
@@ -107,22 +109,33 @@ module _ (log : Log) (formula : Formula) (P : Premises log formula) (slots : ℕ
   source-later : (i : ℕ) (e : NamedRun) → Source log formula P slots i e → Source log formula P slots (suc i) e
   source-later i e s = record { origin = s .origin; before = omega (arith, s .before); accepts = s .accepts; run = s .run; is-named = s .is-named }
 
-  known-found : (i : ℕ) (earlier : List NamedRun) → i < length (log .events) → Known log formula P slots i earlier → (c : Config) (t : Trail) (w : ℕ) → Runs.Named (machine log formula) slots i c t w → Known log formula P slots (suc i) (earlier ++ (named formula c t ∷ []))
-  known-found i earlier h k c t w d = record { sound = λ e m. sound e (List·Memᴰ·append-cases earlier m); complete = λ j l b n. complete j b n (eq-or-lt-of-le l) }
+  known-found : (i : ℕ) (earlier : List NamedRun) → i < length (log .events) → Known log formula P slots i earlier → (c : Config) (t : Trail) (w : ℕ)
+      → Runs.Named (machine log formula) slots i c t w → Known log formula P slots (suc i) (earlier ++ (named formula c t ∷ []))
+  known-found i earlier h k c t w d =
+      record { sound = λ e m. sound e (List·Memᴰ·append-cases earlier m); complete = λ j l b n. complete j b n (eq-or-lt-of-le l) }
     where
       sound : (e : NamedRun) → In e earlier ⊎ In e (named formula c t ∷ []) → Source log formula P slots (suc i) e
       sound e (inl m) = source-later i e (k .sound e m)
       sound e (inr m) =
-          record { origin = i; before = omega arith; accepts = accepting formula c; run = record { config = c; trail = t; width = w; named = d; kind = refl }; is-named = List·Memᴰ·eq-of-singleton m }
+          record {
+            origin = i;
+            before = omega arith;
+            accepts = accepting formula c;
+            run =
+                record { config = c; trail = t; width = w; named = d; kind = refl };
+            is-named = List·Memᴰ·eq-of-singleton m;
+          }
 
-      complete : (j : ℕ) (b : Bool) (n : Names log formula slots j b) → (suc j ≡ suc i) ⊎ (suc j < suc i) → In (named formula (n .config) (n .trail)) (earlier ++ (named formula c t ∷ []))
+      complete : (j : ℕ) (b : Bool) (n : Names log formula slots j b) → (suc j ≡ suc i) ⊎ (suc j < suc i)
+          → In (named formula (n .config) (n .trail)) (earlier ++ (named formula c t ∷ []))
       complete j b n (inl e) =
           let q : j ≡ i = omega arith in
           let o = one-named log formula P slots j (omega arith) c t w (rw q d) b n in
           Memᴰ·append-right earlier (List·Memᴰ·head (λ x. named formula (sym (o .configs) x) (sym (o .trails) x)))
       complete j b n (inr l) = Memᴰ·append-left (named formula c t ∷ []) (k .complete j (omega arith) b n)
 
-  known-none : (i : ℕ) (earlier : List NamedRun) → Known log formula P slots i earlier → (w : ℕ) → Runs.Absent (machine log formula) slots i w → Known log formula P slots (suc i) earlier
+  known-none : (i : ℕ) (earlier : List NamedRun) → Known log formula P slots i earlier → (w : ℕ) → Runs.Absent (machine log formula) slots i w
+      → Known log formula P slots (suc i) earlier
   known-none i earlier k w d = record { sound = λ e m. source-later i e (k .sound e m); complete = λ j l b n. complete j b n (eq-or-lt-of-le l) }
     where
       complete : (j : ℕ) (b : Bool) (n : Names log formula slots j b) → (suc j ≡ suc i) ⊎ (suc j < suc i) → In (named formula (n .config) (n .trail)) earlier
@@ -153,7 +166,8 @@ module _ (log : Log) (formula : Formula) (P : Premises log formula) (slots : ℕ
   part-none : (start : ℕ) → Part start 0 []
   part-none start = record { size = refl; rows = λ k i l. absurd (not-lt-zero k l); roomy = λ k i l. absurd (not-lt-zero k l) }
 
-  part-more : (start m : ℕ) (r ws : List ℕ) → Row log formula slots start r → (CrowdedFrom log formula slots start → ⊥) → Part (suc start) m ws → Part start (suc m) (r ++ ws)
+  part-more : (start m : ℕ) (r ws : List ℕ) → Row log formula slots start r → (CrowdedFrom log formula slots start → ⊥) → Part (suc start) m ws
+      → Part start (suc m) (r ++ ws)
   part-more start m r ws h q p = record { size = size-more r ws m (h .twelve) (p .size); rows = rows; roomy = roomy }
     where
       rows : (k i : ℕ) → k < suc m → i ≡ start + k → Row log formula slots i (rowAt (r ++ ws) k)
@@ -164,35 +178,49 @@ module _ (log : Log) (formula : Formula) (P : Premises log formula) (slots : ℕ
       roomy zero i l e = rw (e ∙ add-zero start) q
       roomy (suc k) i l e = p .roomy k i (lt-down l) (e ∙ add-suc-left start k)
 
-  good-more : (n start : ℕ) (r : List ℕ) (w : Written) → Row log formula slots start r → (CrowdedFrom log formula slots start → ⊥) → Good n (suc start) w → Good (suc n) start (before r w)
+  good-more : (n start : ℕ) (r : List ℕ) (w : Written) → Row log formula slots start r → (CrowdedFrom log formula slots start → ⊥) → Good n (suc start) w
+      → Good (suc n) start (before r w)
   good-more n start r (all ws) h q p = part-more start n r ws h q p
   good-more n start r (upto j ws) h q p =
-      record { number = suc (p .number); place = p .place ∙ sym (add-suc-left start (p .number)); short = lt-up (p .short); part = part-more start (p .number) r ws h q (p .part); here = p .here }
+      record {
+        number = suc (p .number);
+        place = p .place ∙ sym (add-suc-left start (p .number));
+        short = lt-up (p .short);
+        part =
+            part-more start (p .number) r ws h q (p .part);
+        here = p .here;
+      }
 
   -- one start, where what follows it is good
   one-good : (n start : ℕ) (earlier : List NamedRun) (rest : List NamedRun → Written) → start < length (log .events) → Known log formula P slots start earlier
-      → ((es : List NamedRun) → Known log formula P slots (suc start) es → Good n (suc start) (rest es)) → (a : Answer (machine log formula)) → Runs.Demand (machine log formula) slots start a
+      → ((es : List NamedRun) → Known log formula P slots (suc start) es → Good n (suc start) (rest es)) → (a : Answer (machine log formula))
+      → Runs.Demand (machine log formula) slots start a
       → Good (suc n) start (one log formula (search (machine log formula) slots) start earlier rest a)
   one-good n start earlier rest h k good (found c t w) d =
       let this = named formula c t in
       let now = earlier ++ (this ∷ []) in
-      good-more n start (row (verdict (formula .tied) start this earlier) this) (rest now) (row-found log formula P slots start h earlier k c t w d) (λ x. d .roomy (x .event) (x .crowded)) (good now (known-found start earlier h k c t w d))
+      good-more n start (row (verdict (formula .tied) start this earlier) this) (rest now) (row-found log formula P slots start h earlier k c t w d)
+      (λ x. d .roomy (x .event) (x .crowded)) (good now (known-found start earlier h k c t w d))
   one-good n start earlier rest h k good (absent w) d =
-      good-more n start noneRow (rest earlier) (row-none log formula P slots start (d .none)) (λ x. d .roomy (x .event) (x .crowded)) (good earlier (known-none start earlier k w d))
+      good-more n start noneRow (rest earlier) (row-none log formula P slots start (d .none)) (λ x. d .roomy (x .event) (x .crowded))
+      (good earlier (known-none start earlier k w d))
   one-good n start earlier rest h k good (crowded m) d =
       record { number = 0; place = sym (add-zero start); short = zero-lt n; part = part-none start; here = record { event = m; crowded = d .here } }
 
-  rows-good : (n start : ℕ) (earlier : List NamedRun) → start + n ≡ length (log .events) → Known log formula P slots start earlier → Good n start (rowsFrom log formula (search (machine log formula) slots) n start earlier)
+  rows-good : (n start : ℕ) (earlier : List NamedRun) → start + n ≡ length (log .events) → Known log formula P slots start earlier
+      → Good n start (rowsFrom log formula (search (machine log formula) slots) n start earlier)
   unfolding rowsFrom
   rows-good zero start earlier h k = part-none start
   rows-good (suc n) start earlier h k =
-      one-good n start earlier (λ es. rowsFrom log formula (search (machine log formula) slots) n (suc start) es) (omega arith) k (λ es. rows-good n (suc start) es (omega arith)) (search (machine log formula) slots start) (met log formula P slots start (omega arith))
+      one-good n start earlier (λ es. rowsFrom log formula (search (machine log formula) slots) n (suc start) es) (omega arith) k
+      (λ es. rows-good n (suc start) es (omega arith)) (search (machine log formula) slots start) (met log formula P slots start (omega arith))
 
   -- the first m rows are written over words that were lent
   front : (lent ws : List ℕ) (m : ℕ) → Part 0 m ws → (i : ℕ) → i < m → Row log formula slots i (rowAt (ws ++ drop (length ws) lent) i)
   front lent ws m p i l = rw (row-front ws (drop (length ws) lent) i (inside-rows i m (length ws) l (p .size))) (p .rows i i l (sym (zero-add i)))
 
-  all-meets : (lent ws : List ℕ) → 12 * length (log .events) ≤ length lent → Part 0 (length (log .events)) ws → Demand log formula slots lent (writtenInto (all ws) lent)
+  all-meets : (lent ws : List ℕ) → 12 * length (log .events) ≤ length lent → Part 0 (length (log .events)) ws
+      → Demand log formula slots lent (writtenInto (all ws) lent)
   all-meets lent ws h p =
       record {
         crowded = λ i. (λ e. absurd (done≢refused e), λ c. absurd (none i (c .there) (c .here)));
@@ -234,17 +262,21 @@ module _ (log : Log) (formula : Formula) (P : Premises log formula) (slots : ℕ
       row-of i (yes l) n = rows i l
       row-of i (no l) n = absurd (n j (le-of-not-lt i j l) (c .here))
 
-  stopped-meets : (lent ws : List ℕ) (j : ℕ) → 12 * length (log .events) ≤ length lent → Stopped (length (log .events)) 0 j ws → Demand log formula slots lent (writtenInto (upto j ws) lent)
+  stopped-meets : (lent ws : List ℕ) (j : ℕ) → 12 * length (log .events) ≤ length lent → Stopped (length (log .events)) 0 j ws
+      → Demand log formula slots lent (writtenInto (upto j ws) lent)
   stopped-meets lent ws j h s =
       let e : j ≡ s .number = s .place ∙ zero-add (s .number) in
-      upto-meets lent ws j h (rw e (s .part .size)) (first j (s .number) ws e (s .short) (s .part) (s .here)) (λ i l. front lent ws (s .number) (s .part) i (rw e at l))
+      upto-meets lent ws j h (rw e (s .part .size)) (first j (s .number) ws e (s .short) (s .part) (s .here))
+      (λ i l. front lent ws (s .number) (s .part) i (rw e at l))
 
   -- all rows
   abbrev written : Written
   written = rowsFrom log formula (search (machine log formula) slots) (length (log .events)) 0 []
 
   written-good : Good (length (log .events)) 0 written
-  written-good = rows-good (length (log .events)) 0 [] (zero-add (length (log .events))) (record { sound = λ e m. absurd (List·Memᴰ·not-nil m); complete = λ j l. absurd (not-lt-zero j l) })
+  written-good =
+      rows-good (length (log .events)) 0 [] (zero-add (length (log .events)))
+      (record { sound = λ e m. absurd (List·Memᴰ·not-nil m); complete = λ j l. absurd (not-lt-zero j l) })
 
   pub meets : (lent : List ℕ) → 12 * length (log .events) ≤ length lent → Demand log formula slots lent (writtenInto written lent)
   meets lent h = go written written-good
@@ -266,10 +298,16 @@ module _ (log : Log) (formula : Formula) (P : Premises log formula) (slots : ℕ
       go (upto j ws) p = inr (record { start = j; first = first j (p .number) ws (p .place ∙ zero-add (p .number)) (p .short) (p .part) (p .here) })
 
 -- of accepted files, 192 work words or more and 12 row words an event or more, the analysis writes the rows of the runs
-pub analysis-runs : (l f : List ℕ) (log : Log) (formula : Formula) (words : ℕ) (lent : List ℕ) → Accepted l f log formula → 192 ≤ words → 12 * length (log .events) ≤ length lent → analysis l f words lent ≡ writtenInto (rowsFrom log formula (search (machine log formula) (slotsOf words)) (length (log .events)) 0 []) lent
-analysis-runs l f log formula words lent a h k = analysed l f words lent log (a .log-read) formula (a .formula-read) h k
+pub analysis-runs : (l f : List ℕ) (log : Log) (formula : Formula) (words : ℕ) (lent : List ℕ) → Accepted l f log formula → 192 ≤ words
+    → 12 * length (log .events) ≤ length lent
+    → analysis l f words lent ≡ writtenInto (rowsFrom log formula (search (machine log formula) (slotsOf words)) (length (log .events)) 0 []) lent
+analysis-runs l f log formula words lent a h k =
+    subst (λ (g : Log). 12 * length (g .events) ≤ length lent → analysis l f words lent
+    ≡ writtenInto (rowsFrom g formula (search (machine g formula) (slotsOf words)) (length (g .events)) 0 []) lent) (sym (a .records))
+    (λ i. analysed l f words lent (a .file) (a .log-read) formula (a .formula-read) h i) k
 
 -- The third demand on an analysis.
-pub third-demand : (l f : List ℕ) (log : Log) (formula : Formula) (words : ℕ) (lent : List ℕ) → Accepted l f log formula → 192 ≤ words → 12 * length (log .events) ≤ length lent → Demand log formula (slotsOf words) lent (analysis l f words lent)
+pub third-demand : (l f : List ℕ) (log : Log) (formula : Formula) (words : ℕ) (lent : List ℕ) → Accepted l f log formula → 192 ≤ words
+    → 12 * length (log .events) ≤ length lent → Demand log formula (slotsOf words) lent (analysis l f words lent)
 third-demand l f log formula words lent a h k =
     rw (analysis-runs l f log formula words lent a h k) (meets log formula (accepted-premises l f log formula a) (slotsOf words) lent k)

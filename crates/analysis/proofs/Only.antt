@@ -12,18 +12,20 @@ use lib.Seq.{ext-getD, drop-drop}
 use Rattle.event_log.specs.Log.{Log}
 use Rattle.formula.specs.Formula.{Formula}
 use Rattle.runs.specs.Run.{Trail}
-use Rattle.runs.specs.Search.{Answer, found, absent, crowded, search}
+use Rattle.runs.specs.inner.Search.{search}
+use Rattle.runs.specs.Answer.{Answer, found, absent, crowded}
 use Rattle.runs.specs.Demand as Runs
 use Rattle.machine.specs.Configuration.{Config}
 use Rattle.machine.specs.Firing.{isHeld}
 use Rattle.machine.specs.Machine.{machine, accepting}
 use Rattle.machine.proofs.Machine.{Premises}
 use Rattle.search.specs.Search.{slotsOf}
-use Rattle.search.specs.Demand.{Names}
+use Rattle.search.specs.inner.Demand.{Names}
 use Rattle.search.proofs.Premises.{Accepted, accepted-premises}
 use Rattle.search.proofs.Demand.{met}
 use Rattle.analysis.specs.Analysis.{Analysed, analysis}
-use Rattle.analysis.specs.Demand.{Holds, rowAt, Alert, Row, CrowdedFrom, Demand}
+use Rattle.analysis.specs.Call.{rowAt}
+use Rattle.analysis.specs.inner.Demand.{Holds, Alert, Row, CrowdedFrom, Demand}
 use Rattle.analysis.proofs.Demand.{FirstStart, crowding, third-demand}
 
 -- numbers with the same bits are the same
@@ -32,7 +34,8 @@ bits-one zero a b h k e = omega arith
 bits-one (suc n) a b h k e =
     let double = pow-succ' 2 n in
     let low : a / 1 % 2 ≡ b / 1 % 2 = e 0 (omega arith) in
-    let high : a / 2 ≡ b / 2 = bits-one n (a / 2) (b / 2) (omega arith) (omega arith) (λ v l. rw (div-div-eq-div-mul a 2 (2 ^ v), div-div-eq-div-mul b 2 (2 ^ v), ← pow-succ' 2 v) (e (suc v) (omega arith))) in
+    let high : a / 2 ≡ b / 2 = bits-one n (a / 2) (b / 2) (omega arith) (omega arith)
+    (λ v l. rw (div-div-eq-div-mul a 2 (2 ^ v), div-div-eq-div-mul b 2 (2 ^ v), ← pow-succ' 2 v) (e (suc v) (omega arith))) in
     omega arith
 
 -- a row's words are told by its verdict and its run
@@ -61,12 +64,14 @@ same-rows zero xs ys h e = e
 same-rows (suc m) xs ys h e =
     let place : 12 + 12 * m ≡ 12 * suc m = omega arith in
     let front : take 12 xs ≡ take 12 ys = h 0 (omega arith) in
-    let behind : drop 12 xs ≡ drop 12 ys = same-rows m (drop 12 xs) (drop 12 ys) (λ i l. row-behind xs i ∙ h (suc i) (omega arith) ∙ sym (row-behind ys i)) (rw (drop-drop (12 * m) 12 xs, drop-drop (12 * m) 12 ys, place) e) in
+    let behind : drop 12 xs ≡ drop 12 ys = same-rows m (drop 12 xs) (drop 12 ys) (λ i l. row-behind xs i ∙ h (suc i) (omega arith) ∙ sym (row-behind ys i))
+    (rw (drop-drop (12 * m) 12 xs, drop-drop (12 * m) 12 ys, place) e) in
     sym (take-append-drop 12 xs) ∙ (λ x. front x ++ behind x) ∙ take-append-drop 12 ys
 
 module _ (log : Log) (formula : Formula) (P : Premises log formula) (slots : ℕ) where
   -- one verdict for a start with a run
-  one-verdict : (i : ℕ) (c : Config) (t : Trail) (w : ℕ) → Runs.Named (machine log formula) slots i c t w → (r s : List ℕ) → Row log formula slots i r → Row log formula slots i s → getD r 0 0 ≡ getD s 0 0
+  one-verdict : (i : ℕ) (c : Config) (t : Trail) (w : ℕ) → Runs.Named (machine log formula) slots i c t w → (r s : List ℕ) → Row log formula slots i r
+      → Row log formula slots i s → getD r 0 0 ≡ getD s 0 0
   one-verdict i c t w d r s a b = go (accepting formula c) refl (ℕ-discrete (getD s 0 0) 2)
     where
       me : (x : Bool) → accepting formula c ≡ x → Names log formula slots i x
@@ -80,7 +85,8 @@ module _ (log : Log) (formula : Formula) (P : Premises log formula) (slots : ℕ
           a .alert .1 alert ∙ sym (b .alert .1 alert)
 
   -- one row for a start that is not crowded
-  one-row : (i : ℕ) → i < length (log .events) → (CrowdedFrom log formula slots i → ⊥) → (r s : List ℕ) → Row log formula slots i r → Row log formula slots i s → r ≡ s
+  one-row : (i : ℕ) → i < length (log .events) → (CrowdedFrom log formula slots i → ⊥) → (r s : List ℕ) → Row log formula slots i r → Row log formula slots i s
+      → r ≡ s
   one-row i h n r s a b = go (search (machine log formula) slots i) (met log formula P slots i h)
     where
       go : (x : Answer (machine log formula)) → Runs.Demand (machine log formula) slots i x → r ≡ s
@@ -121,6 +127,8 @@ module _ (log : Log) (formula : Formula) (P : Premises log formula) (slots : ℕ
           rows = same-rows (f .start) (a .rows) (b .rows) row (x .rest (f .start) (f .first) ∙ sym (y .rest (f .start) (f .first)))
 
 -- No other answer and no other rows meet the third demand.
-pub third-demand-only : (l f : List ℕ) (log : Log) (formula : Formula) (words : ℕ) (lent : List ℕ) → Accepted l f log formula → 192 ≤ words → 12 * length (log .events) ≤ length lent → (a : Analysed) → Demand log formula (slotsOf words) lent a → a ≡ analysis l f words lent
+pub third-demand-only : (l f : List ℕ) (log : Log) (formula : Formula) (words : ℕ) (lent : List ℕ) → Accepted l f log formula → 192 ≤ words
+    → 12 * length (log .events) ≤ length lent → (a : Analysed) → Demand log formula (slotsOf words) lent a → a ≡ analysis l f words lent
 third-demand-only l f log formula words lent acc h k a d =
-    only-analysis log formula (accepted-premises l f log formula acc) (slotsOf words) lent a (analysis l f words lent) d (third-demand l f log formula words lent acc h k)
+    only-analysis log formula (accepted-premises l f log formula acc) (slotsOf words) lent a (analysis l f words lent) d
+    (third-demand l f log formula words lent acc h k)

@@ -11,16 +11,16 @@ use Rattle.event_log.specs.Log.{Log}
 use Rattle.formula.specs.Formula.{Formula}
 use Rattle.runs.specs.Lists.{In}
 use Rattle.runs.specs.Run.{Trail}
-use Rattle.runs.specs.Search.{found}
+use Rattle.runs.specs.Answer.{found}
 use Rattle.runs.specs.Demand as Runs
 use Rattle.machine.specs.Configuration.{Config}
 use Rattle.machine.specs.Machine.{machine, accepting}
 use Rattle.machine.proofs.Machine.{Premises}
-use Rattle.search.specs.Demand.{Names}
+use Rattle.search.specs.inner.Demand.{Names}
 use Rattle.search.proofs.Premises.{ends-valid}
 use Rattle.search.proofs.Demand.{is-answer}
 use Rattle.analysis.specs.Rows.{NamedRun, named, subsumed, verdict, noneRow, row}
-use Rattle.analysis.specs.Demand.{Holds, Overlapped, Subsumed, Alert, NoRun, Row}
+use Rattle.analysis.specs.inner.Demand.{Holds, Overlapped, Subsumed, Alert, NoRun, Row}
 use Rattle.analysis.proofs.Ties.{subsumes-in, subsumes-out, subsumed-in, subsumed-out}
 
 -- a number that is k, of which A holds exactly then
@@ -49,7 +49,8 @@ module _ (log : Log) (formula : Formula) (P : Premises log formula) (slots : ℕ
     pub configs : c ≡ d
     pub trails : t ≡ u
 
-  pub one-named : (i : ℕ) → i < length (log .events) → (c : Config) (t : Trail) (w : ℕ) → Runs.Named (machine log formula) slots i c t w → (b : Bool) (n : Names log formula slots i b) → Same c (n .config) t (n .trail)
+  pub one-named : (i : ℕ) → i < length (log .events) → (c : Config) (t : Trail) (w : ℕ) → Runs.Named (machine log formula) slots i c t w
+      → (b : Bool) (n : Names log formula slots i b) → Same c (n .config) t (n .trail)
   one-named i h c t w d b n =
       let x = is-answer log formula P slots i h (found c t w) d in
       let y = is-answer log formula P slots i h (found (n .config) (n .trail) (n .width)) (n .named) in
@@ -65,7 +66,8 @@ module _ (log : Log) (formula : Formula) (P : Premises log formula) (slots : ℕ
 
     overlap-out : Overlapped log formula slots i c → subsumed (formula .tied) i (named formula c t) earlier ≡ true
     overlap-out o =
-        subsumed-out (formula .tied) i (named formula c t) (named formula (o .run .config) (o .run .trail)) earlier (known .complete (o .start) (o .earlier) (o .accepts) (o .run))
+        subsumed-out (formula .tied) i (named formula c t) (named formula (o .run .config) (o .run .trail)) earlier
+        (known .complete (o .start) (o .earlier) (o .accepts) (o .run))
         (subsumes-out formula (o .run .config) c (o .run .trail) t (formula .tied) i (o .overlaps) (o .tied))
 
   -- the words of a row behind its verdict
@@ -97,7 +99,8 @@ module _ (log : Log) (formula : Formula) (P : Premises log formula) (slots : ℕ
       }
 
   -- a start with a run has a row with that run, and the verdict of the runs named before
-  module _ (i : ℕ) (h : i < length (log .events)) (earlier : List NamedRun) (known : Known i earlier) (c : Config) (t : Trail) (w : ℕ) (d : Runs.Named (machine log formula) slots i c t w) where
+  module _ (i : ℕ) (h : i < length (log .events)) (earlier : List NamedRun) (known : Known i earlier) (c : Config) (t : Trail) (w : ℕ)
+      (d : Runs.Named (machine log formula) slots i c t w) where
     -- a named run of the start accepts if this one does
     kind : (b : Bool) → Names log formula slots i b → accepting formula c ≡ b
     kind b n = rw ((one-named i h c t w d b n) .configs) (n .kind)
@@ -112,7 +115,8 @@ module _ (log : Log) (formula : Formula) (P : Premises log formula) (slots : ℕ
     ran : NoRun log formula slots i → ⊥
     ran n = n t c (d .run)
 
-    with-verdict : (v : ℕ) → (v ≡ 0 → ⊥) → (v ≡ 1) ↔ Alert log formula slots i → (v ≡ 2) ↔ Subsumed log formula slots i → (v ≡ 3) ↔ Names log formula slots i false → Row log formula slots i (row v (named formula c t))
+    with-verdict : (v : ℕ) → (v ≡ 0 → ⊥) → (v ≡ 1) ↔ Alert log formula slots i → (v ≡ 2) ↔ Subsumed log formula slots i
+        → (v ≡ 3) ↔ Names log formula slots i false → Row log formula slots i (row v (named formula c t))
     unfolding row named
     with-verdict v n a s r =
         let k = ends-valid log formula P c i t (d .run .path .follows) in
@@ -130,7 +134,8 @@ module _ (log : Log) (formula : Formula) (P : Premises log formula) (slots : ℕ
     unfolding verdict named
     row-found = go (accepting formula c) refl (subsumed (formula .tied) i (named formula c t) earlier) refl
       where
-        go : (a : Bool) → accepting formula c ≡ a → (s : Bool) → subsumed (formula .tied) i (named formula c t) earlier ≡ s → Row log formula slots i (row (cond a (cond s 2 1) 3) (named formula c t))
+        go : (a : Bool) → accepting formula c ≡ a → (s : Bool) → subsumed (formula .tied) i (named formula c t) earlier ≡ s
+            → Row log formula slots i (row (cond a (cond s 2 1) 3) (named formula c t))
         go true a true s =
             with-verdict 2 (λ e. omega arith)
             (is-not (λ e. omega arith) (λ x. x .otherwise (rw ((one-named i h c t w d true (x .run)) .configs) at (overlap-in i earlier known c t s))))
@@ -139,7 +144,8 @@ module _ (log : Log) (formula : Formula) (P : Premises log formula) (slots : ℕ
         go true a false s =
             with-verdict 1 (λ e. omega arith)
             (is refl (record { run = me true a; otherwise = λ o. false≢true (sym s ∙ overlap-out i earlier known c t o) }))
-            (is-not (λ e. omega arith) (λ x. false≢true (sym s ∙ overlap-out i earlier known c t (rw ((one-named i h c t w d true (x .run)) .configs) (x .by)))))
+            (is-not (λ e. omega arith)
+            (λ x. false≢true (sym s ∙ overlap-out i earlier known c t (rw ((one-named i h c t w d true (x .run)) .configs) (x .by)))))
             (is-not (λ e. omega arith) (λ n. true≢false (differ true false a n)))
         go false a s e =
             with-verdict 3 (λ e. omega arith)

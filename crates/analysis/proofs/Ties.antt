@@ -14,7 +14,7 @@ use Rattle.machine.specs.Firing.{isHeld, valueOf}
 use Rattle.base.proofs.Tests.{or-right}
 use Rattle.runs.proofs.Moves.{and-both}
 use Rattle.analysis.specs.Rows.{NamedRun, named, alike, tiedAlike, subsumes, subsumed}
-use Rattle.analysis.specs.Demand.{SameValue, both, neither}
+use Rattle.analysis.specs.inner.Demand.{SameValue, both, neither}
 
 or-one : (a b : Bool) → (a || b) ≡ true → (a ≡ true) ⊎ (b ≡ true)
 or-one true b h = inl refl
@@ -73,11 +73,13 @@ unfolding subsumed
 subsumed-in vs start this [] h = absurd (false≢true h)
 subsumed-in vs start this (e ∷ es) h = go (or-one (subsumes vs start this e) (subsumed vs start this es) h) (subsumed-in vs start this es)
   where
-    go : (subsumes vs start this e ≡ true) ⊎ (subsumed vs start this es ≡ true) → (subsumed vs start this es ≡ true → Subsumer vs start this es) → Subsumer vs start this (e ∷ es)
+    go : (subsumes vs start this e ≡ true) ⊎ (subsumed vs start this es ≡ true) → (subsumed vs start this es ≡ true → Subsumer vs start this es)
+        → Subsumer vs start this (e ∷ es)
     go (inl k) rest = record { run = e; member = List·Memᴰ·head refl; subsuming = k }
     go (inr k) rest = record { run = (rest k) .run; member = List·Memᴰ·tail ((rest k) .member); subsuming = (rest k) .subsuming }
 
-pub subsumed-out : (vs : List ℕ) (start : ℕ) (this e : NamedRun) (es : List NamedRun) → In e es → subsumes vs start this e ≡ true → subsumed vs start this es ≡ true
+pub subsumed-out : (vs : List ℕ) (start : ℕ) (this e : NamedRun) (es : List NamedRun) → In e es → subsumes vs start this e ≡ true
+    → subsumed vs start this es ≡ true
 unfolding subsumed
 subsumed-out vs start this e [] m h = absurd (List·Memᴰ·not-nil m)
 subsumed-out vs start this e (x ∷ es) m h = go (List·Memᴰ·cases-cons m) (λ n. subsumed-out vs start this e es n h)

@@ -7,10 +7,11 @@ use lib.Dec.{ltb}
 use Rattle.refusal.specs.declared.Refusal.{Refusal}
 use Rattle.refusal.specs.declared.Refusal.the-variants.{Short, Crowded}
 use Rattle.event_log.specs.Log.{Log}
+use Rattle.event_log.specs.File.{logOf}
 use Rattle.event_log.specs.Read as LogRead
 use Rattle.formula.specs.Formula.{Formula}
 use Rattle.formula.specs.Read as FormulaRead
-use Rattle.runs.specs.Search.{search}
+use Rattle.runs.specs.inner.Search.{search}
 use Rattle.machine.specs.Machine.{machine}
 use Rattle.search.specs.Search.{slotsOf}
 use Rattle.analysis.specs.declared.Outcome.{Outcome}
@@ -44,7 +45,7 @@ withFormula g (FormulaRead.accepted f) words rows = checked g f words rows
 withFormula g (FormulaRead.refused r) words rows = refusal r rows
 
 abbrev pub withLog : LogRead.Reading → List ℕ → ℕ → List ℕ → Analysed
-withLog (LogRead.accepted g) f words rows = withFormula g (FormulaRead.readFormula (length (g .fields)) f) words rows
+withLog (LogRead.accepted t) f words rows = withFormula (logOf t) (FormulaRead.readFormula (length (t .fields)) f) words rows
 withLog (LogRead.refused r) f words rows = refusal r rows
 
 -- The analysis: from the bytes of the log and the formula, the number of lent work words, the lent row words.

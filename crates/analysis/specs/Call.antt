@@ -1,8 +1,8 @@
 -- The contract of the entry `analyse`: what a call answers, and what it leaves in the lent work words and row words.
-use Prim.Native.Nat.{ℕ}
+use Prim.Native.Nat.{ℕ, _*_}
 use mathlib.Core.Path.{_≡_}
 use mathlib.Core.List.{List}
-use lib.ListN.{length}
+use lib.ListN.{length, take, drop}
 use Rattle.refusal.specs.declared.Refusal.{Refusal}
 use Rattle.refusal.specs.Refusals.{NotCrowded}
 use Rattle.analysis.specs.declared.Outcome.{Outcome}
@@ -24,3 +24,7 @@ pub record Leaves (a : Analysed) (work work-after rows-after : List ℕ) (r : Ou
 -- a call with the files l and f, and these work words and row words before and after it, answers r
 abbrev pub Analyses : List ℕ → List ℕ → List ℕ → List ℕ → List ℕ → List ℕ → Outcome → Type 0
 Analyses l f work work-after rows rows-after r = Leaves (analysis l f (length work) rows) work work-after rows-after r
+
+-- the row of start i: "writes 12 words of 32 bits a row"
+unfoldable pub rowAt : List ℕ → ℕ → List ℕ
+rowAt rows i = take 12 (drop (12 * i) rows)

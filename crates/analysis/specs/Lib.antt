@@ -2,4 +2,4 @@
 pub mod Rows
 pub mod Analysis
 pub mod Call
-pub mod Demand
+pub mod inner

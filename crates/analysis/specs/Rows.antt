@@ -9,7 +9,7 @@ use Rattle.base.specs.Mask.{mask}
 use Rattle.event_log.specs.Log.{Log}
 use Rattle.formula.specs.Formula.{Formula}
 use Rattle.runs.specs.Run.{Trail, last}
-use Rattle.runs.specs.Search.{Answer, found, absent, crowded}
+use Rattle.runs.specs.Answer.{Answer, found, absent, crowded}
 use Rattle.machine.specs.Configuration.{Config}
 use Rattle.machine.specs.Machine.{machine, accepting}
 

@@ -1,6 +1,6 @@
 -- Lists compared one element after the other: they are the same exactly when they are equal, and what is left decides.
-use Prim.Native.Nat.{ℕ, suc, _+_, _<_, _≤_}
-use mathlib.Core.Path.{_≡_, refl, ap, sym, _∙_}
+use Prim.Native.Nat.{ℕ, _+_, _<_, _≤_}
+use mathlib.Core.Path.{_≡_, refl, sym, _∙_}
 use mathlib.Core.Bool.{Bool, true, false, _&&_, false≢true, and-eq-true-iff}
 use mathlib.Core.List.{List, [], _∷_}
 use native.Mathlib.Numerals.{add-one}
@@ -24,23 +24,13 @@ module _ {A : Type 0} (test : A → A → Bool) where
   list-same f [] = refl
   list-same f (x ∷ xs) = and-eq-true-iff (test x x) (sameList test xs xs) .1 (f x, list-same f xs)
 
-  -- lists of two lengths are not the same
-  pub lengths-differ : (xs ys : List A) → (length xs ≡ length ys → ⊥) → false ≡ sameList test xs ys
-  lengths-differ [] [] h = absurd (h refl)
-  lengths-differ [] (y ∷ ys) h = refl
-  lengths-differ (x ∷ xs) [] h = refl
-  lengths-differ (x ∷ xs) (y ∷ ys) h = go (test x y) (lengths-differ xs ys (λ e. h (ap suc e)))
-    where
-      go : (b : Bool) → false ≡ sameList test xs ys → false ≡ (b && sameList test xs ys)
-      go true e = e
-      go false e = refl
-
 module _ {A : Type 0} (test : A → A → Bool) (d : A) (xs ys : List A) where
   -- the lists agree as far as k: what is left decides
   abbrev pub Agreed : ℕ → Type 0
   Agreed k = sameList test xs ys ≡ sameList test (drop k xs) (drop k ys)
 
-  step : (k : ℕ) → k < length xs → k < length ys → sameList test (drop k xs) (drop k ys) ≡ (test (getD xs k d) (getD ys k d) && sameList test (drop (k + 1) xs) (drop (k + 1) ys))
+  step : (k : ℕ) → k < length xs → k < length ys
+      → sameList test (drop k xs) (drop k ys) ≡ (test (getD xs k d) (getD ys k d) && sameList test (drop (k + 1) xs) (drop (k + 1) ys))
   step k h i = rw (drop-cons xs k d h, drop-cons ys k d i, add-one k)
 
   pub agreed-next : (k : ℕ) → k < length xs → k < length ys → test (getD xs k d) (getD ys k d) ≡ true → Agreed k → Agreed (k + 1)

@@ -57,5 +57,6 @@ bytes-of-value l at h k =
     let k₂ : at + 2 < length l = omega arith in
     let k₃ : at + 3 < length l = omega arith in
     let k₀ : at < length l = omega arith in
-    let e = four (getD l at 0) (getD l (at + 1) 0) (getD l (at + 2) 0) (getD l (at + 3) 0) (byte-below l at h) (byte-below l (at + 1) h) (byte-below l (at + 2) h) (byte-below l (at + 3) h) in
+    let e = four (getD l at 0) (getD l (at + 1) 0) (getD l (at + 2) 0) (getD l (at + 3) 0) (byte-below l at h) (byte-below l (at + 1) h)
+    (byte-below l (at + 2) h) (byte-below l (at + 3) h) in
     rw (e, drop-next l at, drop-next l (at + 1), add-assoc at 1 1, drop-next l (at + 2), add-assoc at 2 1, drop-next l (at + 3), add-assoc at 3 1)

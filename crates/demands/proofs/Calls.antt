@@ -11,14 +11,15 @@ use Rattle.refusal.specs.declared.Refusal.the-variants.{Outside, Short, Crowded
 use Rattle.refusal.specs.Refusals.{NotCrowded}
 use Rattle.event_log.specs.declared.LogReading.{LogReading}
 use Rattle.event_log.specs.Log.{Log}
+use Rattle.event_log.specs.File.{LogFile, logOf}
 use Rattle.event_log.specs.Read as LogRead
 use Rattle.event_log.proofs.Answers.{log-refused, log-taken}
 use Rattle.formula.specs.Formula.{Formula}
 use Rattle.formula.specs.Read as FormulaRead
-use Rattle.formula_reader.specs.declared.FormulaReading.{FormulaReading}
-use Rattle.formula_reader.specs.Answer.{answerOf as formulaAnswer}
-use Rattle.formula_reader.proofs.Answers.{formula-refused, formula-taken}
-use Rattle.runs.specs.Search.{search}
+use Rattle.formula_code.specs.declared.FormulaReading.{FormulaReading}
+use Rattle.formula_code.specs.Answer.{answerOf as formulaAnswer}
+use Rattle.formula_code.proofs.Answers.{formula-refused, formula-taken}
+use Rattle.runs.specs.inner.Search.{search}
 use Rattle.machine.specs.Machine.{machine}
 use Rattle.search.specs.declared.Verdict.the-variants as SearchIs
 use Rattle.search.specs.declared.SearchAnswer.{SearchAnswer}
@@ -40,71 +41,76 @@ use Rattle.demands.proofs.Search.{unnamed, second-by}
 -- how the two files of a call are read
 data Files (l f : List ℕ) : Type 0 where
   log-bad : (why : Refusal) → LogRead.readLog l ≡ LogRead.refused why → Files l f
-  formula-bad : (g : Log) (why : Refusal) → LogRead.readLog l ≡ LogRead.accepted g → FormulaRead.readFormula (length (g .fields)) f ≡ FormulaRead.refused why → Files l f
-  both-good : (g : Log) (fm : Formula) → LogRead.readLog l ≡ LogRead.accepted g → FormulaRead.readFormula (length (g .fields)) f ≡ FormulaRead.accepted fm → Files l f
+  formula-bad : (t : LogFile) (why : Refusal) → LogRead.readLog l ≡ LogRead.accepted t
+      → FormulaRead.readFormula (length (t .fields)) f ≡ FormulaRead.refused why → Files l f
+  both-good : (t : LogFile) (fm : Formula) → LogRead.readLog l ≡ LogRead.accepted t → FormulaRead.readFormula (length (t .fields)) f ≡ FormulaRead.accepted fm
+      → Files l f
 
 files : (l f : List ℕ) → Files l f
 files l f = go (LogRead.readLog l) refl
   where
-    then : (g : Log) → LogRead.readLog l ≡ LogRead.accepted g → (y : FormulaRead.Reading) → FormulaRead.readFormula (length (g .fields)) f ≡ y → Files l f
-    then g e (FormulaRead.accepted fm) q = both-good g fm e q
-    then g e (FormulaRead.refused why) q = formula-bad g why e q
+    then : (t : LogFile) → LogRead.readLog l ≡ LogRead.accepted t → (y : FormulaRead.Reading) → FormulaRead.readFormula (length (t .fields)) f ≡ y → Files l f
+    then t e (FormulaRead.accepted fm) q = both-good t fm e q
+    then t e (FormulaRead.refused why) q = formula-bad t why e q
 
     go : (x : LogRead.Reading) → LogRead.readLog l ≡ x → Files l f
-    go (LogRead.accepted g) e = then g e (FormulaRead.readFormula (length (g .fields)) f) refl
+    go (LogRead.accepted t) e = then t e (FormulaRead.readFormula (length (t .fields)) f) refl
     go (LogRead.refused why) e = log-bad why e
 
 -- what the readers' answers say of the files
 record Good (l f : List ℕ) (count : ℕ) : Type 0 where
-  pub log : Log
+  pub file : LogFile
   pub formula : Formula
-  pub log-read : LogRead.readLog l ≡ LogRead.accepted log
-  pub formula-read : FormulaRead.readFormula (length (log .fields)) f ≡ FormulaRead.accepted formula
-  pub events : count ≡ length (log .events)
+  pub log-read : LogRead.readLog l ≡ LogRead.accepted file
+  pub formula-read : FormulaRead.readFormula (length (file .fields)) f ≡ FormulaRead.accepted formula
+  pub events : count ≡ length ((logOf file) .events)
 
 good : (l f : List ℕ) (a : LogReading) (b : FormulaReading) → Accepted l f a b → Good l f (a .events)
 unfolding LogRead.answerOf
 good l f a b x =
     let t = log-taken (LogRead.readLog l) (ap (λ (y : LogReading). y .verdict) (sym (x .log)) ∙ x .log-accepted) in
-    let q : a ≡ LogRead.answerOf (LogRead.accepted (t .log)) = x .log ∙ ap LogRead.answerOf (t .is) in
+    let q : a ≡ LogRead.answerOf (LogRead.accepted (t .file)) = x .log ∙ ap LogRead.answerOf (t .is) in
     let k = x .formula ∙ ap (λ n. formulaAnswer (FormulaRead.readFormula n f)) (ap (λ (y : LogReading). y .fields) q) in
-    let u = formula-taken (FormulaRead.readFormula (length (t .log .fields)) f) (ap (λ (y : FormulaReading). y .verdict) (sym k) ∙ x .formula-accepted) in
-    record { log = t .log; formula = u .formula; log-read = t .is; formula-read = u .is; events = ap (λ (y : LogReading). y .events) q }
+    let u = formula-taken (FormulaRead.readFormula (length (t .file .fields)) f) (ap (λ (y : FormulaReading). y .verdict) (sym k) ∙ x .formula-accepted) in
+    record { file = t .file; formula = u .formula; log-read = t .is; formula-read = u .is; events = ap (λ (y : LogReading). y .events) q }
 
 read : {l f : List ℕ} (g : Log) (fm : Formula) → P.Accepted l f g fm → Good l f (length (g .events))
-read g fm a = record { log = g; formula = fm; log-read = a .log-read; formula-read = a .formula-read; events = refl }
+read g fm a =
+    record { file = a .file; formula = fm; log-read = a .log-read; formula-read = a .formula-read; events = ap (λ (x : Log). length (x .events)) (a .records) }
 
 -- a file that is refused
 data Bad (l f : List ℕ) (why : Refusal) : Type 0 where
   bad-log : LogRead.readLog l ≡ LogRead.refused why → Bad l f why
-  bad-formula : (g : Log) → LogRead.readLog l ≡ LogRead.accepted g → FormulaRead.readFormula (length (g .fields)) f ≡ FormulaRead.refused why → Bad l f why
+  bad-formula : (t : LogFile) → LogRead.readLog l ≡ LogRead.accepted t → FormulaRead.readFormula (length (t .fields)) f ≡ FormulaRead.refused why → Bad l f why
 
 bad : (l f : List ℕ) (why : Refusal) → FileRefused l f why → Bad l f why
 unfolding LogRead.answerOf
 bad l f why (by-log a e v) = bad-log (log-refused (LogRead.readLog l) why (ap (λ (y : LogReading). y .verdict) (sym e) ∙ v))
 bad l f why (by-formula a b e v k w) =
     let t = log-taken (LogRead.readLog l) (ap (λ (y : LogReading). y .verdict) (sym e) ∙ v) in
-    let q : a ≡ LogRead.answerOf (LogRead.accepted (t .log)) = e ∙ ap LogRead.answerOf (t .is) in
+    let q : a ≡ LogRead.answerOf (LogRead.accepted (t .file)) = e ∙ ap LogRead.answerOf (t .is) in
     let r = k ∙ ap (λ n. formulaAnswer (FormulaRead.readFormula n f)) (ap (λ (y : LogReading). y .fields) q) in
-    bad-formula (t .log) (t .is) (formula-refused (FormulaRead.readFormula (length (t .log .fields)) f) why (ap (λ (y : FormulaReading). y .verdict) (sym r) ∙ w))
+    bad-formula (t .file) (t .is)
+    (formula-refused (FormulaRead.readFormula (length (t .file .fields)) f) why (ap (λ (y : FormulaReading). y .verdict) (sym r) ∙ w))
 
 module _ (l f : List ℕ) (start words : ℕ) where
   bad-search : (why : Refusal) → Bad l f why → S.searchAnswer l f start words ≡ S.refusal why
   bad-search why (bad-log e) = SearchChecks.bad-log l f start words why e
-  bad-search why (bad-formula g e q) = SearchChecks.bad-formula l f start words g e why q
+  bad-search why (bad-formula t e q) = SearchChecks.bad-formula l f start words t e why q
 
   module _ (count : ℕ) (x : Good l f count) where
     outside : count ≤ start → S.searchAnswer l f start words ≡ S.refusal (Outside start)
-    outside h = SearchChecks.outside l f start words (x .log) (x .log-read) (x .formula) (x .formula-read) (omega (arith, x .events, h))
+    outside h = SearchChecks.outside l f start words (x .file) (x .log-read) (x .formula) (x .formula-read) (omega (arith, x .events, h))
 
     short : start < count → words < 192 → S.searchAnswer l f start words ≡ S.refusal (Short 192)
-    short h k = SearchChecks.short l f start words (x .log) (x .log-read) (x .formula) (x .formula-read) (omega (arith, x .events, h)) k
+    short h k = SearchChecks.short l f start words (x .file) (x .log-read) (x .formula) (x .formula-read) (omega (arith, x .events, h)) k
 
     -- behind the checks nothing is refused but crowded
     runs : start < count → 192 ≤ words → (why : Refusal) → S.searchAnswer l f start words .verdict ≡ SearchIs.Refused why → NotCrowded why → ⊥
     runs h k why v u =
-        let q = SearchChecks.searched l f start words (x .log) (x .log-read) (x .formula) (x .formula-read) (omega (arith, x .events, h)) k in
-        only-crowded (x .log) (x .formula) (search (machine (x .log) (x .formula)) (S.slotsOf words) start) why (ap (λ (y : SearchAnswer). y .verdict) (sym q) ∙ v) u
+        let q = SearchChecks.searched l f start words (x .file) (x .log-read) (x .formula) (x .formula-read) (omega (arith, x .events, h)) k in
+        only-crowded (logOf (x .file)) (x .formula) (search (machine (logOf (x .file)) (x .formula)) (S.slotsOf words) start) why
+        (ap (λ (y : SearchAnswer). y .verdict) (sym q) ∙ v) u
 
   pub search-first : (r : SearchAnswer) (work after : List ℕ) → words ≡ length work → Searched l f start work after r → FirstOfSearch l f start work after r
   search-first r work after w c =
@@ -125,35 +131,41 @@ module _ (l f : List ℕ) (start words : ℕ) where
       unrun : (why : Refusal) → S.searchAnswer l f start words ≡ S.refusal why → SecondOfSearch start (S.searchAnswer l f start words)
       unrun why e = unnamed start (S.searchAnswer l f start words) (ap (λ (y : SearchAnswer). y .steps) e)
 
-      run : (g : Log) (fm : Formula) → P.Accepted l f g fm → Dec (start < length (g .events)) → Dec (words < 192) → SecondOfSearch start (S.searchAnswer l f start words)
+      run : (g : Log) (fm : Formula) → P.Accepted l f g fm → Dec (start < length (g .events)) → Dec (words < 192)
+          → SecondOfSearch start (S.searchAnswer l f start words)
       run g fm a (no h) k = unrun (Outside start) (outside (length (g .events)) (read g fm a) (omega (arith, h)))
       run g fm a (yes h) (yes k) = unrun (Short 192) (short (length (g .events)) (read g fm a) h k)
       run g fm a (yes h) (no k) =
           rw (search-runs l f g fm start words a h (omega (arith, k)))
-          (second-by g fm (S.slotsOf words) start (search (machine g fm) (S.slotsOf words) start) (met g fm (P.accepted-premises l f g fm a) (S.slotsOf words) start h))
+          (second-by g fm (S.slotsOf words) start (search (machine g fm) (S.slotsOf words) start)
+          (met g fm (P.accepted-premises l f g fm a) (S.slotsOf words) start h))
 
       go : Files l f → SecondOfSearch start (S.searchAnswer l f start words)
       go (log-bad why e) = unrun why (bad-search why (bad-log e))
-      go (formula-bad g why e q) = unrun why (bad-search why (bad-formula g e q))
-      go (both-good g fm e q) = run g fm (record { log-bytes = b; formula-bytes = d; log-read = e; formula-read = q }) (decLt start (length (g .events))) (decLt words 192)
+      go (formula-bad t why e q) = unrun why (bad-search why (bad-formula t e q))
+      go (both-good t fm e q) =
+          run (logOf t) fm (record { log-bytes = b; formula-bytes = d; file = t; records = refl; log-read = e; formula-read = q })
+          (decLt start (length ((logOf t) .events))) (decLt words 192)
 
 module _ (l f : List ℕ) (words : ℕ) (rows : List ℕ) where
   bad-analysis : (why : Refusal) → Bad l f why → A.analysis l f words rows ≡ A.refusal why rows
   bad-analysis why (bad-log e) = AnalysisChecks.bad-log l f words rows why e
-  bad-analysis why (bad-formula g e q) = AnalysisChecks.bad-formula l f words rows g e why q
+  bad-analysis why (bad-formula t e q) = AnalysisChecks.bad-formula l f words rows t e why q
 
   module _ (count : ℕ) (x : Good l f count) where
     short-work : words < 192 → A.analysis l f words rows ≡ A.refusal (Short 192) rows
-    short-work h = AnalysisChecks.short-work l f words rows (x .log) (x .log-read) (x .formula) (x .formula-read) h
+    short-work h = AnalysisChecks.short-work l f words rows (x .file) (x .log-read) (x .formula) (x .formula-read) h
 
     short-rows : 192 ≤ words → length rows < 12 * count → A.analysis l f words rows ≡ A.refusal (Short (12 * count)) rows
-    short-rows h k = rw (x .events) (AnalysisChecks.short-rows l f words rows (x .log) (x .log-read) (x .formula) (x .formula-read) h (omega (arith, x .events, k)))
+    short-rows h k =
+        rw (x .events) (AnalysisChecks.short-rows l f words rows (x .file) (x .log-read) (x .formula) (x .formula-read) h (omega (arith, x .events, k)))
 
     -- behind the checks nothing is refused but crowded
     rows-run : 192 ≤ words → 12 * count ≤ length rows → (why : Refusal) → A.analysis l f words rows .outcome ≡ AnalysisIs.Refused why → NotCrowded why → ⊥
     rows-run h k why v u =
-        let w = rowsFrom (x .log) (x .formula) (search (machine (x .log) (x .formula)) (S.slotsOf words)) (length (x .log .events)) 0 [] in
-        let q = AnalysisChecks.analysed l f words rows (x .log) (x .log-read) (x .formula) (x .formula-read) h (omega (arith, x .events, k)) in
+        let g = logOf (x .file) in
+        let w = rowsFrom g (x .formula) (search (machine g (x .formula)) (S.slotsOf words)) (length (g .events)) 0 [] in
+        let q = AnalysisChecks.analysed l f words rows (x .file) (x .log-read) (x .formula) (x .formula-read) h (omega (arith, x .events, k)) in
         AnalysisRuns.only-crowded w rows why (ap (λ (y : A.Analysed). y .outcome) (sym q) ∙ v) u
 
   -- a call ends before it runs and leaves the rows alone, or runs
@@ -171,11 +183,14 @@ module _ (l f : List ℕ) (words : ℕ) (rows : List ℕ) where
 
       go : Files l f → Ended
       go (log-bad why e) = unrun why (bad-analysis why (bad-log e))
-      go (formula-bad g why e q) = unrun why (bad-analysis why (bad-formula g e q))
-      go (both-good g fm e q) = run g fm (record { log-bytes = b; formula-bytes = d; log-read = e; formula-read = q }) (decLt words 192) (decLt (length rows) (12 * length (g .events)))
+      go (formula-bad t why e q) = unrun why (bad-analysis why (bad-formula t e q))
+      go (both-good t fm e q) =
+          run (logOf t) fm (record { log-bytes = b; formula-bytes = d; file = t; records = refl; log-read = e; formula-read = q }) (decLt words 192)
+          (decLt (length rows) (12 * length ((logOf t) .events)))
 
   -- what the rows are after a call that is refused
-  rows-untouched : Ended → (why : Refusal) → A.analysis l f words rows .outcome ≡ AnalysisIs.Refused why → NotCrowded why → A.analysis l f words rows .rows ≡ rows
+  rows-untouched : Ended → (why : Refusal) → A.analysis l f words rows .outcome ≡ AnalysisIs.Refused why → NotCrowded why
+      → A.analysis l f words rows .rows ≡ rows
   rows-untouched (unrun r e) why v u = ap (λ (y : A.Analysed). y .rows) e
   rows-untouched (ran g fm a h k) why v u = absurd (rows-run (length (g .events)) (read g fm a) h k why v u)
 
@@ -183,11 +198,13 @@ module _ (l f : List ℕ) (words : ℕ) (rows : List ℕ) where
   rows-number (unrun r e) = ap (λ (y : A.Analysed). length (y .rows)) e
   rows-number (ran g fm a h k) = AnalysisRuns.third-demand l f g fm words rows a h k .all
 
-  rows-rest : Ended → (i : ℕ) → A.analysis l f words rows .outcome ≡ AnalysisIs.Refused (Crowded i) → drop (12 * i) (A.analysis l f words rows .rows) ≡ drop (12 * i) rows
+  rows-rest : Ended → (i : ℕ) → A.analysis l f words rows .outcome ≡ AnalysisIs.Refused (Crowded i)
+      → drop (12 * i) (A.analysis l f words rows .rows) ≡ drop (12 * i) rows
   rows-rest (unrun r e) i v = ap (λ (y : A.Analysed). drop (12 * i) (y .rows)) e
   rows-rest (ran g fm a h k) i v = let d = AnalysisRuns.third-demand l f g fm words rows a h k in d .rest i (d .crowded i .0 v)
 
-  pub analysis-first : (work work-after rows-after : List ℕ) (r : Outcome) → words ≡ length work → Bytes l → Bytes f → Analyses l f work work-after rows rows-after r → FirstOfAnalysis l f work work-after rows rows-after r
+  pub analysis-first : (work work-after rows-after : List ℕ) (r : Outcome) → words ≡ length work → Bytes l → Bytes f
+      → Analyses l f work work-after rows rows-after r → FirstOfAnalysis l f work work-after rows rows-after r
   analysis-first work work-after rows-after r w b d c =
       let a : r ≡ A.analysis l f words rows .outcome = rw w (c .outcome) in
       let m : rows-after ≡ A.analysis l f words rows .rows = rw w (c .rows) in

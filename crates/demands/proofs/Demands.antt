@@ -6,14 +6,14 @@ use mathlib.Core.List.{List}
 use lib.ListN.{length}
 use Rattle.base.specs.Lists.{Bytes}
 use Rattle.event_log.specs.declared.LogReading.{LogReading}
-use Rattle.event_log.specs.Log.{Log}
+use Rattle.event_log.specs.File.{LogFile, logOf}
 use Rattle.event_log.specs.Read.{readLog, answerOf as logAnswer, ReadsLog}
 use Rattle.event_log.proofs.Accepted.{encoding-is-accepted}
 use Rattle.formula.specs.Formula.{Formula}
 use Rattle.formula.specs.Read.{readFormula}
 use Rattle.formula.proofs.Reading.{correct-accepted}
-use Rattle.formula_reader.specs.declared.FormulaReading.{FormulaReading}
-use Rattle.formula_reader.specs.Answer.{answerOf as formulaAnswer, ReadsFormula}
+use Rattle.formula_code.specs.declared.FormulaReading.{FormulaReading}
+use Rattle.formula_code.specs.Answer.{answerOf as formulaAnswer, ReadsFormula}
 use Rattle.search.specs.declared.SearchAnswer.{SearchAnswer}
 use Rattle.search.specs.Search.{slotsOf}
 use Rattle.search.specs.Call.{Searched}
@@ -45,7 +45,8 @@ module _ (l f : List ℕ) where
   pub first-search : (start : ℕ) (work after : List ℕ) (r : SearchAnswer) → Searched l f start work after r → FirstOfSearch l f start work after r
   first-search start work after r c = Calls.search-first l f start (length work) r work after refl c
 
-  pub first-analysis : Bytes l → Bytes f → (work work-after rows rows-after : List ℕ) (r : Outcome) → Analyses l f work work-after rows rows-after r → FirstOfAnalysis l f work work-after rows rows-after r
+  pub first-analysis : Bytes l → Bytes f → (work work-after rows rows-after : List ℕ) (r : Outcome) → Analyses l f work work-after rows rows-after r
+      → FirstOfAnalysis l f work work-after rows rows-after r
   first-analysis b d work work-after rows rows-after r c = Calls.analysis-first l f (length work) rows work work-after rows-after r refl b d c
 
 -- SECOND: a reader accepts exactly when the file is the encoding of a correct log (formula), and reads it as that one
@@ -61,34 +62,40 @@ module _ (l f : List ℕ) (bytes : Bytes l) (more : Bytes f) where
   second-search start work after r c = subst (SecondOfSearch start) (sym (c .answer)) (Calls.search-second l f start (length work) bytes more)
 
   -- THIRD: an accepted log and formula, one seat or more
-  module _ (g : Log) (fm : Formula) (log : IsLog l g) (formula : IsFormula (length (g .fields)) f fm) (work : List ℕ) (seat : 192 ≤ length work) where
-    both : Accepted l f g fm
+  module _ (t : LogFile) (fm : Formula) (log : IsLog l t) (formula : IsFormula (length (t .fields)) f fm) (work : List ℕ) (seat : 192 ≤ length work) where
+    both : Accepted l f (logOf t) fm
     both =
         record {
           log-bytes = bytes;
           formula-bytes = more;
-          log-read = rw (log .encoded) (encoding-is-accepted g (log .correct));
-          formula-read = rw (formula .encoded) (correct-accepted (length (g .fields)) fm (formula .correct));
+          file = t;
+          records = refl;
+          log-read = rw (log .encoded) (encoding-is-accepted t (log .correct));
+          formula-read = rw (formula .encoded) (correct-accepted (length (t .fields)) fm (formula .correct));
         }
 
     -- a search at any event of the log
-    module _ (start : ℕ) (inside : start < length (g .events)) (after : List ℕ) (r : SearchAnswer) (contract : Searched l f start work after r) where
-      pub third-search : ThirdOfSearch g fm (slotsOf (length work)) start r
-      third-search = subst (ThirdOfSearch g fm (slotsOf (length work)) start) (sym (contract .answer)) (search-meet l f g fm start (length work) both inside seat)
+    module _ (start : ℕ) (inside : start < length ((logOf t) .events)) (after : List ℕ) (r : SearchAnswer) (contract : Searched l f start work after r) where
+      pub third-search : ThirdOfSearch (logOf t) fm (slotsOf (length work)) start r
+      third-search =
+          subst (ThirdOfSearch (logOf t) fm (slotsOf (length work)) start) (sym (contract .answer))
+          (search-meet l f (logOf t) fm start (length work) both inside seat)
 
       -- no other answer meets the demand
-      pub third-search-only : (s : SearchAnswer) → ThirdOfSearch g fm (slotsOf (length work)) start s → s ≡ r
-      third-search-only s d = search-only l f g fm start (length work) both inside seat s d ∙ sym (contract .answer)
+      pub third-search-only : (s : SearchAnswer) → ThirdOfSearch (logOf t) fm (slotsOf (length work)) start s → s ≡ r
+      third-search-only s d = search-only l f (logOf t) fm start (length work) both inside seat s d ∙ sym (contract .answer)
 
     -- the rows of an analysis
-    module _ (work-after rows rows-after : List ℕ) (room : 12 * length (g .events) ≤ length rows) (r : Outcome) (contract : Analyses l f work work-after rows rows-after r) where
-      pub third-rows : ThirdOfRows l f (length work) fm (length (g .events)) rows rows-after r
-      third-rows = rw (contract .rows, contract .outcome) (rows-meet l f g fm work rows both seat room)
+    module _ (work-after rows rows-after : List ℕ) (room : 12 * length ((logOf t) .events) ≤ length rows) (r : Outcome)
+        (contract : Analyses l f work work-after rows rows-after r) where
+      pub third-rows : ThirdOfRows l f (length work) fm (length ((logOf t) .events)) rows rows-after r
+      third-rows = rw (contract .rows, contract .outcome) (rows-meet l f (logOf t) fm work rows both seat room)
 
       -- no other rows and answer meet the demand
-      pub third-rows-only : (after : List ℕ) (o : Outcome) → ThirdOfRows l f (length work) fm (length (g .events)) rows after o → (o ≡ r) × (after ≡ rows-after)
+      pub third-rows-only : (after : List ℕ) (o : Outcome) → ThirdOfRows l f (length work) fm (length ((logOf t) .events)) rows after o
+          → (o ≡ r) × (after ≡ rows-after)
       third-rows-only after o d =
-          let q = rows-only l f g fm work rows both seat room after o d in
+          let q = rows-only l f (logOf t) fm work rows both seat room after o d in
           (q .0 ∙ sym (contract .outcome), q .1 ∙ sym (contract .rows))
 
 -- THE STATIC LIBRARY hands on answers that meet the entries' contracts
@@ -101,5 +108,6 @@ exports-formula f fields r c = record { reading = formulaAnswer (readFormula fie
 pub exports-search : (l f : List ℕ) (start : ℕ) (work after : List ℕ) (r : Found) → ExportsSearch l f start work after r → HandsOnSearch l f start work after r
 exports-search l f start work after r c = Exports.search-handed l f start work after r c
 
-pub exports-analysis : (l f work work-after rows rows-after : List ℕ) (r : Refused) → ExportsAnalysis l f work work-after rows rows-after r → HandsOnAnalysis l f work work-after rows rows-after r
+pub exports-analysis : (l f work work-after rows rows-after : List ℕ) (r : Refused) → ExportsAnalysis l f work work-after rows rows-after r
+    → HandsOnAnalysis l f work work-after rows rows-after r
 exports-analysis l f work work-after rows rows-after r c = Exports.analysis-handed l f work work-after rows rows-after r c

@@ -54,7 +54,8 @@ module _ (l f : List ℕ) where
         numbers-are = c .answer;
       }
 
-  pub analysis-handed : (work work-after rows rows-after : List ℕ) (r : Refused) → ExportsAnalysis l f work work-after rows rows-after r → HandsOnAnalysis l f work work-after rows rows-after r
+  pub analysis-handed : (work work-after rows rows-after : List ℕ) (r : Refused) → ExportsAnalysis l f work work-after rows rows-after r
+      → HandsOnAnalysis l f work work-after rows rows-after r
   analysis-handed work work-after rows rows-after r c =
       let a = analysis l f (length work) rows in
       record {

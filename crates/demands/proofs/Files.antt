@@ -9,16 +9,18 @@ use borrow.Author.Tests.{eqb-true, eq-eqb}
 use lib.Dec.{eqb}
 use native.Mathlib.Nat.{le-of-lt}
 use lib.ListN.{length, getD, take, drop, take-append-drop}
-use lib.Seq.{split-at, length-take-le}
+use lib.Seq.{length-take-le}
 use Rattle.base.specs.Lists.{Bytes}
 use Rattle.refusal.specs.declared.Refusal.{Refusal}
 use Rattle.refusal.specs.Refusals.{reportOf}
 use Rattle.event_log.specs.declared.LogReading.{LogReading}
 use Rattle.event_log.specs.declared.Verdict.the-variants as LogIs
-use Rattle.event_log.specs.Log.{Log}
+use Rattle.event_log.specs.Log.{eventAt}
+use Rattle.event_log.specs.File.{event, LogFile, eventsOf, logOf}
 use Rattle.event_log.specs.Encode as LogEncode
 use Rattle.event_log.specs.Read as LogRead
-use Rattle.event_log.proofs.Encoding.{at-event}
+use Rattle.event_log.proofs.Encoding.{at-entry, events-append}
+use Rattle.event_log.proofs.Places.{length-entries, entry-split, table-place}
 use Rattle.event_log.proofs.Accepted as LogLaws
 use Rattle.event_log.proofs.Answers.{log-taken}
 use Rattle.event_log.proofs.Refusals.{LogRefusal, log-refusal}
@@ -27,18 +29,18 @@ use Rattle.formula.specs.Read as FormulaRead
 use Rattle.formula.proofs.Basics.{all-left}
 use Rattle.formula.proofs.Reading as FormulaLaws
 use Rattle.formula.proofs.Refusals.{FormulaRefusal, formula-refusal}
-use Rattle.formula_reader.specs.declared.FormulaReading.{FormulaReading}
-use Rattle.formula_reader.specs.declared.Verdict.the-variants as FormulaIs
-use Rattle.formula_reader.specs.Answer as FormulaAnswer
-use Rattle.formula_reader.proofs.Answers.{formula-taken}
-use Rattle.runs.specs.Lists.{has}
+use Rattle.formula_code.specs.declared.FormulaReading.{FormulaReading}
+use Rattle.formula_code.specs.declared.Verdict.the-variants as FormulaIs
+use Rattle.formula_code.specs.Answer as FormulaAnswer
+use Rattle.formula_code.proofs.Answers.{formula-taken}
+use Rattle.runs.specs.inner.Lists.{has}
 use Rattle.runs.proofs.Lists.{has-in}
-use Rattle.machine.specs.Machine.{eventAt}
 use Rattle.demands.specs.Demands.{IsLog, IsFormula, Told, FirstOfLog, FirstOfFormula, SomeLog, SomeFormula, Recorded, SecondOfLog, SecondOfFormula}
 
 -- FIRST DEMAND
 
-tell : {file n : ℕ} {allowed : List ℕ} {why : Refusal} → reportOf why .file ≡ file → has eqb (reportOf why .number) allowed ≡ true → reportOf why .place ≤ n → Told file allowed n why
+tell : {file n : ℕ} {allowed : List ℕ} {why : Refusal} → reportOf why .file ≡ file → has eqb (reportOf why .number) allowed ≡ true → reportOf why .place ≤ n
+    → Told file allowed n why
 tell f i p = record { names-file = f; names-number = has-in eqb eqb-true (λ k. eq-eqb k k refl) _ _ i; names-place = omega arith }
 
 log-told : (l : List ℕ) (r : LogReading) (why : Refusal) → r .verdict ≡ LogIs.Refused why → LogRefusal (length l) why → FirstOfLog l r
@@ -56,7 +58,7 @@ unfolding LogRead.answerOf
 log-first l r reads = go (LogRead.readLog l) refl reads
   where
     go : (x : LogRead.Reading) → LogRead.readLog l ≡ x → r ≡ LogRead.answerOf x → FirstOfLog l r
-    go (LogRead.accepted g) q a = FirstOfLog.accepted (ap (λ (s : LogReading). s .verdict) a)
+    go (LogRead.accepted t) q a = FirstOfLog.accepted (ap (λ (s : LogReading). s .verdict) a)
     go (LogRead.refused why) q a = log-told l r why (ap (λ (s : LogReading). s .verdict) a) (log-refusal l why q)
 
 formula-told : (f : List ℕ) (r : FormulaReading) (why : Refusal) → r .verdict ≡ FormulaIs.Refused why → FormulaRefusal (length f) why → FirstOfFormula f r
@@ -85,24 +87,29 @@ module _ (l : List ℕ) (r : LogReading) (reads : LogRead.ReadsLog l r) where
   accepted-log : Bytes l → r .verdict ≡ LogIs.Accepted → SomeLog l
   accepted-log bytes v =
       let t = log-taken (LogRead.readLog l) (ap (λ (x : LogReading). x .verdict) (sym reads) ∙ v) in
-      let k = LogLaws.accepted-is-encoding l (t .log) bytes (t .is) in
-      record { log = t .log; is = record { correct = k .1; encoded = k .0 } }
+      let k = LogLaws.accepted-is-encoding l (t .file) bytes (t .is) in
+      record { file = t .file; is = record { correct = k .1; encoded = k .0 } }
 
   -- the encoding of a correct log is answered as that log
-  log-answer : (g : Log) → IsLog l g → r ≡ LogRead.answerOf (LogRead.accepted g)
-  log-answer g is = reads ∙ ap LogRead.answerOf (ap LogRead.readLog (is .encoded) ∙ LogLaws.encoding-is-accepted g (is .correct))
+  log-answer : (t : LogFile) → IsLog l t → r ≡ LogRead.answerOf (LogRead.accepted t)
+  log-answer t is = reads ∙ ap LogRead.answerOf (ap LogRead.readLog (is .encoded) ∙ LogLaws.encoding-is-accepted t (is .correct))
 
 -- event n stands behind the fields and the n events before it
-log-recorded : (l : List ℕ) (g : Log) → IsLog l g → (n : ℕ) → n < length (g .events) → Recorded l g n
-unfolding eventAt LogEncode.encodeBody
-log-recorded l g is n h =
-    let es = g .events in
-    let e = is .encoded ∙ at-event g (take n es) (getD es n []) (drop (suc n) es) (split-at es n [] h) in
+log-recorded : (l : List ℕ) (t : LogFile) → IsLog l t → (n : ℕ) → n < length ((logOf t) .events) → Recorded l t n
+unfolding LogEncode.encodeBody
+log-recorded l t is n h =
+    let es = t .entries in
+    let inside : n < length es = omega (arith, length-entries es) in
+    let split : es ≡ take n es ++ (event ((eventAt (logOf t) n) .values) ∷ drop (suc n) es) = entry-split t n h in
+    let before = take n es in
+    let e = is .encoded ∙ at-entry t before (event ((eventAt (logOf t) n) .values)) (drop (suc n) es) split in
     record {
-      before = take n es;
-      behind = flatMap LogEncode.encodeEvent (drop (suc n) es) ++ (0 ∷ []);
-      count = length-take-le n es (le-of-lt h);
-      whole = all-left _ (take n es) (drop n es) (rw (take-append-drop n es) (is .correct .one-per-field));
+      before = before;
+      behind = flatMap LogEncode.encodeEntry (drop (suc n) es) ++ (0 ∷ []);
+      count = length-entries before ∙ length-take-le n es (le-of-lt inside);
+      whole =
+          all-left _ (eventsOf before) (eventsOf (drop n es))
+          (rw (← events-append before (drop n es), take-append-drop n es) (is .correct .recorded .one-per-field));
       stands = rw append-assoc at e;
     }
 
@@ -110,14 +117,14 @@ log-recorded l g is n h =
 pub log-second : (l : List ℕ) (r : LogReading) → Bytes l → LogRead.ReadsLog l r → SecondOfLog l r
 unfolding LogRead.answerOf
 log-second l r bytes reads =
-    let answer : (g : Log) → IsLog l g → r ≡ LogRead.answerOf (LogRead.accepted g) = log-answer l r reads in
+    let answer : (t : LogFile) → IsLog l t → r ≡ LogRead.answerOf (LogRead.accepted t) = log-answer l r reads in
     record {
-      accepts = (accepted-log l r reads bytes, λ s. ap (λ (x : LogReading). x .verdict) (answer (s .log) (s .is)));
-      one = λ g h i j. LogLaws.encode-once g h (i .correct) (j .correct) (sym (i .encoded) ∙ j .encoded);
-      fields = λ g i. ap (λ (x : LogReading). x .fields) (answer g i);
-      rising = λ g i. ap (λ (x : LogReading). x .rises) (answer g i);
-      events = λ g i. ap (λ (x : LogReading). x .events) (answer g i);
-      first = λ g i. ap (λ (x : LogReading). x .first) (answer g i);
+      accepts = (accepted-log l r reads bytes, λ s. ap (λ (x : LogReading). x .verdict) (answer (s .file) (s .is)));
+      one = λ t u i j. LogLaws.encode-once t u (i .correct) (j .correct) (sym (i .encoded) ∙ j .encoded);
+      fields = λ t i. ap (λ (x : LogReading). x .fields) (answer t i);
+      rising = λ t i. ap (λ (x : LogReading). x .rises) (answer t i);
+      events = λ t i. ap (λ (x : LogReading). x .events) (answer t i);
+      places = λ t i n h. ap (λ (x : LogReading). getD (x .places) n 0) (answer t i) ∙ table-place t (i .correct) n h;
       recorded = log-recorded l;
     }
 
@@ -131,7 +138,8 @@ module _ (f : List ℕ) (fields : ℕ) (r : FormulaReading) (reads : FormulaAnsw
 
   -- the encoding of a correct formula is answered as that formula
   formula-answer : (g : Formula) → IsFormula fields f g → r ≡ FormulaAnswer.answerOf (FormulaRead.accepted g)
-  formula-answer g is = reads ∙ ap FormulaAnswer.answerOf (ap (FormulaRead.readFormula fields) (is .encoded) ∙ FormulaLaws.correct-accepted fields g (is .correct))
+  formula-answer g is =
+      reads ∙ ap FormulaAnswer.answerOf (ap (FormulaRead.readFormula fields) (is .encoded) ∙ FormulaLaws.correct-accepted fields g (is .correct))
 
 -- A formula is accepted exactly when it is the encoding of a correct one, and read as that one.
 pub formula-second : (f : List ℕ) (fields : ℕ) (r : FormulaReading) → Bytes f → FormulaAnswer.ReadsFormula f fields r → SecondOfFormula f fields r

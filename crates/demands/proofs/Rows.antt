@@ -11,7 +11,8 @@ use Rattle.search.specs.Search.{slotsOf}
 use Rattle.search.proofs.Premises.{Accepted}
 use Rattle.analysis.specs.declared.Outcome.{Outcome}
 use Rattle.analysis.specs.Analysis.{Analysed, analysis}
-use Rattle.analysis.specs.Demand.{rowAt, CrowdedFrom, FirstCrowded, Demand}
+use Rattle.analysis.specs.Call.{rowAt}
+use Rattle.analysis.specs.inner.Demand.{CrowdedFrom, FirstCrowded, Demand}
 use Rattle.analysis.proofs.Demand.{third-demand}
 use Rattle.analysis.proofs.Only.{third-demand-only}
 use Rattle.demands.specs.Demands.{answer, SaysCrowded, ThirdOfRows}
@@ -19,19 +20,31 @@ use Rattle.demands.proofs.Translation.{crowded-same, row-in, row-out}
 
 module _ (l f : List ℕ) (g : Log) (fm : Formula) (words : ℕ) (acc : Accepted l f g fm) (enough : 192 ≤ words) where
   -- none of the starts with a property, all of them in the log, is crowded
-  roomy-same : (P : ℕ → Type 0) → ((j : ℕ) → P j → j < length (g .events)) → ((j : ℕ) → P j → SaysCrowded (answer l f words j) → ⊥) ↔ ((j : ℕ) → P j → CrowdedFrom g fm (slotsOf words) j → ⊥)
-  roomy-same P there =
-      (λ n j p c. n j p (crowded-same l f g fm words acc enough j (there j p) .1 c), λ n j p s. n j p (crowded-same l f g fm words acc enough j (there j p) .0 s))
+  roomy-same : (P : ℕ → Type 0) → ((j : ℕ) → P j → j < length (g .events))
+      → ((j : ℕ) → P j → SaysCrowded (answer l f words j) → ⊥) ↔ ((j : ℕ) → P j → CrowdedFrom g fm (slotsOf words) j → ⊥)
+  roomy-same P there = (
+    λ n j p c. n j p (crowded-same l f g fm words acc enough j (there j p) .1 c),
+    λ
+        n j p s. n j p (crowded-same l f g fm words acc enough j (there j p) .0 s),
+  )
 
-  all-roomy : ((j : ℕ) → j < length (g .events) → SaysCrowded (answer l f words j) → ⊥) ↔ ((j : ℕ) → j < length (g .events) → CrowdedFrom g fm (slotsOf words) j → ⊥)
+  all-roomy : ((j : ℕ) → j < length (g .events) → SaysCrowded (answer l f words j) → ⊥)
+      ↔ ((j : ℕ) → j < length (g .events) → CrowdedFrom g fm (slotsOf words) j → ⊥)
   all-roomy = roomy-same (λ j. j < length (g .events)) (λ j p. p)
 
-  upto-roomy : (i : ℕ) → i < length (g .events) → ((j : ℕ) → j ≤ i → SaysCrowded (answer l f words j) → ⊥) ↔ ((j : ℕ) → j ≤ i → CrowdedFrom g fm (slotsOf words) j → ⊥)
+  upto-roomy : (i : ℕ) → i < length (g .events)
+      → ((j : ℕ) → j ≤ i → SaysCrowded (answer l f words j) → ⊥) ↔ ((j : ℕ) → j ≤ i → CrowdedFrom g fm (slotsOf words) j → ⊥)
   upto-roomy i h = roomy-same (λ j. j ≤ i) (λ j p. lt-of-le-of-lt p h)
 
   -- the first crowded start
-  first-same : (i : ℕ) → ((i < length (g .events)) × SaysCrowded (answer l f words i) × ((j : ℕ) → j < i → SaysCrowded (answer l f words j) → ⊥)) ↔ FirstCrowded g fm (slotsOf words) i
-  first-same i = (λ s. record { there = s .0; here = here (s .0) .0 (s .1); first = before (s .0) .0 (s .2) }, λ c. (c .there, here (c .there) .1 (c .here), before (c .there) .1 (c .first)))
+  first-same : (i : ℕ)
+      → ((i < length (g .events)) × SaysCrowded (answer l f words i) × ((j : ℕ) → j < i → SaysCrowded (answer l f words j) → ⊥))
+      ↔ FirstCrowded g fm (slotsOf words) i
+  first-same i = (
+    λ s. record { there = s .0; here = here (s .0) .0 (s .1); first = before (s .0) .0 (s .2) },
+    λ
+        c. (c .there, here (c .there) .1 (c .here), before (c .there) .1 (c .first)),
+  )
     where
       here : i < length (g .events) → SaysCrowded (answer l f words i) ↔ CrowdedFrom g fm (slotsOf words) i
       here h = crowded-same l f g fm words acc enough i h
@@ -51,7 +64,8 @@ module _ (l f : List ℕ) (g : Log) (fm : Formula) (words : ℕ) (acc : Accepted
         number = d .all;
       }
 
-  to-runs : (lent after : List ℕ) (r : Outcome) → ThirdOfRows l f words fm (length (g .events)) lent after r → Demand g fm (slotsOf words) lent (record { outcome = r; rows = after })
+  to-runs : (lent after : List ℕ) (r : Outcome) → ThirdOfRows l f words fm (length (g .events)) lent after r
+      → Demand g fm (slotsOf words) lent (record { outcome = r; rows = after })
   to-runs lent after r t =
       record {
         crowded = λ i. Iff·trans (t .crowded i) (first-same i);
@@ -65,11 +79,15 @@ module _ (l f : List ℕ) (g : Log) (fm : Formula) (words : ℕ) (acc : Accepted
 -- The rows meet the demand.
 pub rows-meet : (l f : List ℕ) (g : Log) (fm : Formula) (work rows : List ℕ) → Accepted l f g fm → 192 ≤ length work → 12 * length (g .events) ≤ length rows
     → ThirdOfRows l f (length work) fm (length (g .events)) rows (analysis l f (length work) rows .rows) (analysis l f (length work) rows .outcome)
-rows-meet l f g fm work rows acc h k = to-page l f g fm (length work) acc h rows (analysis l f (length work) rows) (third-demand l f g fm (length work) rows acc h k)
+rows-meet l f g fm work rows acc h k =
+    to-page l f g fm (length work) acc h rows (analysis l f (length work) rows) (third-demand l f g fm (length work) rows acc h k)
 
 -- No other rows and no other answer do.
-pub rows-only : (l f : List ℕ) (g : Log) (fm : Formula) (work rows : List ℕ) → Accepted l f g fm → 192 ≤ length work → 12 * length (g .events) ≤ length rows → (after : List ℕ) (r : Outcome)
-    → ThirdOfRows l f (length work) fm (length (g .events)) rows after r → (r ≡ analysis l f (length work) rows .outcome) × (after ≡ analysis l f (length work) rows .rows)
+pub rows-only : (l f : List ℕ) (g : Log) (fm : Formula) (work rows : List ℕ) → Accepted l f g fm → 192 ≤ length work → 12 * length (g .events) ≤ length rows
+    → (after : List ℕ) (r : Outcome)
+    → ThirdOfRows l f (length work) fm (length (g .events)) rows after r → (r ≡ analysis l f (length work) rows .outcome)
+    × (after ≡ analysis l f (length work) rows .rows)
 rows-only l f g fm work rows acc h k after r t =
-    let one = third-demand-only l f g fm (length work) rows acc h k (record { outcome = r; rows = after }) (to-runs l f g fm (length work) acc h rows after r t) in
+    let one = third-demand-only l f g fm (length work) rows acc h k (record { outcome = r; rows = after }) (to-runs l f g fm (length work) acc h rows after r t)
+    in
     (ap (λ (a : Analysed). a .outcome) one, ap (λ (a : Analysed). a .rows) one)

@@ -12,7 +12,8 @@ use Rattle.event_log.specs.Log.{Log}
 use Rattle.formula.specs.Formula.{Formula}
 use Rattle.runs.specs.Run.{Trail, Starts}
 use Rattle.runs.specs.Order.{events}
-use Rattle.runs.specs.Search.{Answer, found, absent, crowded, search}
+use Rattle.runs.specs.inner.Search.{search}
+use Rattle.runs.specs.Answer.{Answer, found, absent, crowded}
 use Rattle.runs.specs.Demand as Runs
 use Rattle.runs.proofs.Comparison.{Rising}
 use Rattle.runs.proofs.Trails.{follow-rising}
@@ -115,8 +116,17 @@ module _ (g : Log) (fm : Formula) (P : Premises g fm) (seats start : ℕ) where
   only-by : (s : SearchAnswer) → ThirdOfSearch g fm seats start s → (a : Answer (machine g fm)) → Runs.Demand (machine g fm) seats start a → s ≡ answerOf g fm a
   only-by s q (found c t w) d =
       let n = q .named (λ x. d .roomy (x .event) (x .crowded)) (λ no. no t c (d .run)) in
-      let e = only-one (machine g fm) seats start (found c t w) (found (n .config) (n .trail) (s .width)) d (record { roomy = d .roomy; run = n .run; least = n .least; peak = n .width }) in
-      is (found (n .config) (n .trail) (s .width)) (found c t w) e (λ i. record { verdict = n .verdict i; steps = n .steps i; events = n .event-list i; numbers = n .number-list i; held = n .held i; values = n .values i; width = s .width })
+      let e = only-one (machine g fm) seats start (found c t w) (found (n .config) (n .trail) (s .width)) d
+      (record { roomy = d .roomy; run = n .run; least = n .least; peak = n .width }) in
+      is (found (n .config) (n .trail) (s .width)) (found c t w) e (λ i. record {
+        verdict = n .verdict i;
+        steps = n .steps i;
+        events = n .event-list i;
+        numbers = n .number-list i;
+        held = n .held i;
+        values = n .values i;
+        width = s .width;
+      })
   only-by s q (absent w) d =
       let b = q .nothing (q .none (λ x. d .roomy (x .event) (x .crowded)) .1 (d .none)) in
       let e = only-one (machine g fm) seats start (absent w) (absent (s .width)) d (record { roomy = d .roomy; none = d .none; peak = b .1 }) in
@@ -144,7 +154,8 @@ module _ (g : Log) (fm : Formula) (seats start : ℕ) where
       let p = d .run .path in
       record {
         begins = λ h. getD-pad 32 0 (events t) 0 (omega arith) ∙ begins-at start t (p .begins);
-        rise = λ k h. rw (getD-pad 32 0 (events t) k (omega (arith, h, p .most)), getD-pad 32 0 (events t) (suc k) (omega (arith, h, p .most))) (rising-at start t k (follow-rising (machine g fm) _ c start t (p .follows)) h);
+        rise = λ k h. rw (getD-pad 32 0 (events t) k (omega (arith, h, p .most)), getD-pad 32 0 (events t) (suc k) (omega (arith, h, p .most)))
+            (rising-at start t k (follow-rising (machine g fm) _ c start t (p .follows)) h);
       }
   second-by (absent w) d = unnamed start (answerOf g fm (absent w)) refl
   second-by (crowded n) d = unnamed start (answerOf g fm (crowded n)) refl
@@ -153,9 +164,11 @@ module _ (l f : List ℕ) (g : Log) (fm : Formula) (start words : ℕ) (a : Acce
   pub search-meet : ThirdOfSearch g fm (slotsOf words) start (searchAnswer l f start words)
   search-meet =
       let P = accepted-premises l f g fm a in
-      rw (search-runs l f g fm start words a inside seat) (third-by g fm P (slotsOf words) start (search (machine g fm) (slotsOf words) start) (met g fm P (slotsOf words) start inside))
+      rw (search-runs l f g fm start words a inside seat)
+      (third-by g fm P (slotsOf words) start (search (machine g fm) (slotsOf words) start) (met g fm P (slotsOf words) start inside))
 
   pub search-only : (s : SearchAnswer) → ThirdOfSearch g fm (slotsOf words) start s → s ≡ searchAnswer l f start words
   search-only s q =
       let P = accepted-premises l f g fm a in
-      rw (search-runs l f g fm start words a inside seat) (only-by g fm P (slotsOf words) start s q (search (machine g fm) (slotsOf words) start) (met g fm P (slotsOf words) start inside))
+      rw (search-runs l f g fm start words a inside seat)
+      (only-by g fm P (slotsOf words) start s q (search (machine g fm) (slotsOf words) start) (met g fm P (slotsOf words) start inside))

@@ -10,17 +10,18 @@ use lib.ListN.{length, getD}
 use Rattle.event_log.specs.Log.{Log}
 use Rattle.formula.specs.Formula.{Formula}
 use Rattle.runs.specs.Run.{last}
-use Rattle.runs.specs.Search.{Answer, found, absent, crowded, search}
+use Rattle.runs.specs.inner.Search.{search}
+use Rattle.runs.specs.Answer.{Answer, found, absent, crowded}
 use Rattle.runs.specs.Demand as Runs
 use Rattle.machine.specs.Firing.{isHeld}
 use Rattle.machine.specs.Machine.{machine, accepting}
 use Rattle.search.specs.declared.Verdict.the-variants as SearchIs
 use Rattle.search.specs.declared.SearchAnswer.{SearchAnswer}
 use Rattle.search.specs.Search.{slotsOf}
-use Rattle.search.specs.Demand as Search
+use Rattle.search.specs.inner.Demand as Search
 use Rattle.search.proofs.Premises.{Accepted, accepted-premises}
 use Rattle.search.proofs.Demand.{met, third-demand}
-use Rattle.analysis.specs.Demand as ByRuns
+use Rattle.analysis.specs.inner.Demand as ByRuns
 use Rattle.analysis.proofs.Last.{last-is}
 use Rattle.demands.specs.Demands as Page
 
@@ -115,14 +116,29 @@ module _ (l f : List ℕ) (g : Log) (fm : Formula) (words : ℕ) (acc : Accepted
             let j = o .start in
             let k = lt-trans (o .earlier) h in
             let m = run-in j k (o .run) in
-            record { start = j; earlier = o .earlier; accepts = m .0; run = m .1; overlaps = omega (arith, last-same j k (m .0) (m .1)); tied = λ v t. same-in j i k h (m .0) b (m .1) n v (o .tied v t) }
+            record {
+              start = j;
+              earlier = o .earlier;
+              accepts = m .0;
+              run = m .1;
+              overlaps = omega (arith, last-same j k (m .0) (m .1));
+              tied = λ
+                  v t. same-in j i k h (m .0) b (m .1) n v (o .tied v t);
+            }
 
         out : ByRuns.Overlapped g fm (slotsOf words) i (n .config) → Page.Overlapped l f words fm i
         out o =
             let j = o .start in
             let k = lt-trans (o .earlier) h in
             let m = o .run in
-            record { start = j; earlier = o .earlier; run = run-out j k (o .accepts) m; overlaps = omega (arith, last-same j k (o .accepts) m); tied = λ v t. same-out j i k h (o .accepts) b m n v (o .tied v t) }
+            record {
+              start = j;
+              earlier = o .earlier;
+              run = run-out j k (o .accepts) m;
+              overlaps = omega (arith, last-same j k (o .accepts) m);
+              tied = λ
+                  v t. same-out j i k h (o .accepts) b m n v (o .tied v t);
+            }
 
     alert-same : ((answer i .verdict ≡ SearchIs.Accept) × (Page.Overlapped l f words fm i → ⊥)) ↔ ByRuns.Alert g fm (slotsOf words) i
     alert-same = (
@@ -137,7 +153,8 @@ module _ (l f : List ℕ) (g : Log) (fm : Formula) (words : ℕ) (acc : Accepted
     )
 
     -- the words of a row behind its verdict
-    value-out : (r : List ℕ) (b : Bool) (n : Least i b) → ByRuns.Holds r (n .config) (n .trail) → (v : ℕ) → v < 8 → getD r (4 + v) 0 ≡ getD (answer i .values) v 0
+    value-out : (r : List ℕ) (b : Bool) (n : Least i b) → ByRuns.Holds r (n .config) (n .trail) → (v : ℕ) → v < 8
+        → getD r (4 + v) 0 ≡ getD (answer i .values) v 0
     value-out r b n x v k = go (isHeld (n .config) v) refl
       where
         go : (p : Bool) → isHeld (n .config) v ≡ p → getD r (4 + v) 0 ≡ getD (answer i .values) v 0

@@ -12,7 +12,8 @@ use Rattle.refusal.specs.declared.Refusal.the-variants.{Outside, Short, Crowded
 use Rattle.refusal.specs.Refusals.{reportOf, NotCrowded}
 use Rattle.event_log.specs.declared.LogReading.{LogReading}
 use Rattle.event_log.specs.declared.Verdict.the-variants as LogIs
-use Rattle.event_log.specs.Log.{Event, Log}
+use Rattle.event_log.specs.Log.{Event, Log, eventAt}
+use Rattle.event_log.specs.File.{Entry, event, LogFile, eventsOf, logOf}
 use Rattle.event_log.specs.Correct as LogCorrect
 use Rattle.event_log.specs.Encode as LogEncode
 use Rattle.event_log.specs.Event.{eventPlace}
@@ -21,24 +22,23 @@ use Rattle.formula.specs.Formula.{Formula}
 use Rattle.formula.specs.Correct as FormulaCorrect
 use Rattle.formula.specs.Encode as FormulaEncode
 use Rattle.formula.specs.Lookup.{stepTable, tiedMask}
-use Rattle.formula_reader.specs.declared.FormulaReading.{FormulaReading}
-use Rattle.formula_reader.specs.declared.Verdict.the-variants as FormulaIs
-use Rattle.formula_reader.specs.Answer.{kindsOf, ReadsFormula}
+use Rattle.formula_code.specs.declared.FormulaReading.{FormulaReading}
+use Rattle.formula_code.specs.declared.Verdict.the-variants as FormulaIs
+use Rattle.formula_code.specs.Answer.{kindsOf, ReadsFormula}
 use Rattle.runs.specs.Lists.{In}
 use Rattle.runs.specs.Run.{Trail, last, Run}
 use Rattle.runs.specs.Order.{events, numbers, Later}
 use Rattle.runs.specs.Waiting.{Count}
 use Rattle.runs.specs.Demand as Runs
 use Rattle.machine.specs.Configuration.{Config}
-use Rattle.machine.specs.Machine.{machine, eventAt, accepting}
+use Rattle.machine.specs.Machine.{machine, accepting}
 use Rattle.search.specs.declared.Verdict.the-variants as SearchIs
 use Rattle.search.specs.declared.SearchAnswer.{SearchAnswer}
 use Rattle.search.specs.Search.{without, refusal, searchAnswer}
 use Rattle.search.specs.Call.{Searched}
 use Rattle.analysis.specs.declared.Outcome.{Outcome}
 use Rattle.analysis.specs.declared.Outcome.the-variants as AnalysisIs
-use Rattle.analysis.specs.Call.{Analyses}
-use Rattle.analysis.specs.Demand.{rowAt}
+use Rattle.analysis.specs.Call.{Analyses, rowAt}
 use Rattle.exports.specs.declared.Refused.{Refused}
 use Rattle.exports.specs.declared.LogRead.{LogRead}
 use Rattle.exports.specs.declared.Found.{Found}
@@ -46,10 +46,10 @@ use Rattle.exports.specs.Exports.{exportedLog, exportedFormula, exportedSearch,
 
 -- THE FILES
 
--- the file l is the encoding of the correct log g
-pub record IsLog (l : List ℕ) (g : Log) : Type 0 where
-  pub correct : LogCorrect.Correct g
-  pub encoded : l ≡ LogEncode.encode g
+-- the file l is the encoding of the correct log file t
+pub record IsLog (l : List ℕ) (t : LogFile) : Type 0 where
+  pub correct : LogCorrect.Correct t
+  pub encoded : l ≡ LogEncode.encode t
 
 -- the file f is the encoding of the formula fm, correct for a log with so many fields
 pub record IsFormula (fields : ℕ) (f : List ℕ) (fm : Formula) : Type 0 where
@@ -84,14 +84,16 @@ pub record Accepted (l f : List ℕ) (a : LogReading) (b : FormulaReading) : Typ
 -- what a call's two readers refuse it with: "A call checks the log, the formula, .."
 pub data FileRefused (l f : List ℕ) (why : Refusal) : Type 0 where
   by-log : (a : LogReading) → ReadsLog l a → a .verdict ≡ LogIs.Refused why → FileRefused l f why
-  by-formula : (a : LogReading) (b : FormulaReading) → ReadsLog l a → a .verdict ≡ LogIs.Accepted → ReadsFormula f (a .fields) b → b .verdict ≡ FormulaIs.Refused why → FileRefused l f why
+  by-formula : (a : LogReading) (b : FormulaReading) → ReadsLog l a → a .verdict ≡ LogIs.Accepted → ReadsFormula f (a .fields) b
+      → b .verdict ≡ FormulaIs.Refused why → FileRefused l f why
 
 -- a search: "A call checks the log, the formula, 9 (search only), 10 for work words, .., then runs"
 pub record FirstOfSearch (l f : List ℕ) (start : ℕ) (work after : List ℕ) (r : SearchAnswer) : Type 0 where
   pub file : (why : Refusal) → FileRefused l f why → r ≡ refusal why
   pub outside : (a : LogReading) (b : FormulaReading) → Accepted l f a b → a .events ≤ start → r ≡ refusal (Outside start)
   pub short : (a : LogReading) (b : FormulaReading) → Accepted l f a b → start < a .events → length work < 192 → r ≡ refusal (Short 192)
-  pub runs : (a : LogReading) (b : FormulaReading) → Accepted l f a b → start < a .events → 192 ≤ length work → (why : Refusal) → r .verdict ≡ SearchIs.Refused why → NotCrowded why → ⊥
+  pub runs : (a : LogReading) (b : FormulaReading) → Accepted l f a b → start < a .events → 192 ≤ length work → (why : Refusal)
+      → r .verdict ≡ SearchIs.Refused why → NotCrowded why → ⊥
   -- refused, but not with crowded, leaves every lent word alone; no call makes them more or fewer
   pub untouched : (why : Refusal) → r .verdict ≡ SearchIs.Refused why → NotCrowded why → after ≡ work
   pub number : length after ≡ length work
@@ -100,8 +102,10 @@ pub record FirstOfSearch (l f : List ℕ) (start : ℕ) (work after : List ℕ) 
 pub record FirstOfAnalysis (l f work work-after rows rows-after : List ℕ) (r : Outcome) : Type 0 where
   pub file : (why : Refusal) → FileRefused l f why → r ≡ AnalysisIs.Refused why
   pub short-work : (a : LogReading) (b : FormulaReading) → Accepted l f a b → length work < 192 → r ≡ AnalysisIs.Refused (Short 192)
-  pub short-rows : (a : LogReading) (b : FormulaReading) → Accepted l f a b → 192 ≤ length work → length rows < 12 * a .events → r ≡ AnalysisIs.Refused (Short (12 * a .events))
-  pub runs : (a : LogReading) (b : FormulaReading) → Accepted l f a b → 192 ≤ length work → 12 * a .events ≤ length rows → (why : Refusal) → r ≡ AnalysisIs.Refused why → NotCrowded why → ⊥
+  pub short-rows : (a : LogReading) (b : FormulaReading) → Accepted l f a b → 192 ≤ length work → length rows < 12 * a .events
+      → r ≡ AnalysisIs.Refused (Short (12 * a .events))
+  pub runs : (a : LogReading) (b : FormulaReading) → Accepted l f a b → 192 ≤ length work → 12 * a .events ≤ length rows → (why : Refusal)
+      → r ≡ AnalysisIs.Refused why → NotCrowded why → ⊥
   -- refused, but not with crowded, leaves every lent word alone; no call makes them more or fewer
   pub untouched : (why : Refusal) → r ≡ AnalysisIs.Refused why → NotCrowded why → (work-after ≡ work) × (rows-after ≡ rows)
   pub number : (length work-after ≡ length work) × (length rows-after ≡ length rows)
@@ -112,30 +116,32 @@ pub record FirstOfAnalysis (l f work work-after rows rows-after : List ℕ) (r :
 -- recorded order.
 
 pub record SomeLog (l : List ℕ) : Type 0 where
-  pub log : Log
-  pub is : IsLog l log
+  pub file : LogFile
+  pub is : IsLog l file
 
 pub record SomeFormula (fields : ℕ) (f : List ℕ) : Type 0 where
   pub formula : Formula
   pub is : IsFormula fields f formula
 
 -- event n of the log is the n-th EVENT command of the file, from 0: behind all FIELDs and n EVENTs, whatever its values
-pub record Recorded (l : List ℕ) (g : Log) (n : ℕ) : Type 0 where
-  pub before : List Event
+pub record Recorded (l : List ℕ) (t : LogFile) (n : ℕ) : Type 0 where
+  pub before : List Entry
   pub behind : List ℕ
-  pub count : length before ≡ n
-  pub whole : All (λ (e : Event). length e ≡ length (g .fields)) before
-  pub stands : l ≡ flatMap LogEncode.encodeField (g .fields) ++ (flatMap LogEncode.encodeEvent before ++ (LogEncode.encodeEvent (eventAt g n) ++ behind))
+  pub count : length (eventsOf before) ≡ n
+  pub whole : All (λ (e : Event). length (e .values) ≡ length (t .fields)) (eventsOf before)
+  pub stands : l ≡ flatMap LogEncode.encodeField (t .fields)
+      ++ (flatMap LogEncode.encodeEntry before ++ (LogEncode.encodeEntry (event ((eventAt (logOf t) n) .values)) ++ behind))
 
 pub record SecondOfLog (l : List ℕ) (r : LogReading) : Type 0 where
   pub accepts : (r .verdict ≡ LogIs.Accepted) ↔ SomeLog l
-  pub one : (g h : Log) → IsLog l g → IsLog l h → g ≡ h
-  pub fields : (g : Log) → IsLog l g → r .fields ≡ length (g .fields)
-  pub rising : (g : Log) → IsLog l g → r .rises ≡ pad 8 false (map rises (g .fields))
-  pub events : (g : Log) → IsLog l g → r .events ≡ length (g .events)
-  pub first : (g : Log) → IsLog l g → r .first ≡ eventPlace g 0
+  pub one : (t u : LogFile) → IsLog l t → IsLog l u → t ≡ u
+  pub fields : (t : LogFile) → IsLog l t → r .fields ≡ length (t .fields)
+  pub rising : (t : LogFile) → IsLog l t → r .rises ≡ pad 8 false (map rises (t .fields))
+  pub events : (t : LogFile) → IsLog l t → r .events ≡ length ((logOf t) .events)
+  -- where each event begins
+  pub places : (t : LogFile) → IsLog l t → (n : ℕ) → n < length ((logOf t) .events) → getD (r .places) n 0 ≡ eventPlace t n
   -- "Nothing is ever sorted"
-  pub recorded : (g : Log) → IsLog l g → (n : ℕ) → n < length (g .events) → Recorded l g n
+  pub recorded : (t : LogFile) → IsLog l t → (n : ℕ) → n < length ((logOf t) .events) → Recorded l t n
 
 pub record SecondOfFormula (f : List ℕ) (fields : ℕ) (r : FormulaReading) : Type 0 where
   pub accepts : (r .verdict ≡ FormulaIs.Accepted) ↔ SomeFormula fields f
@@ -222,7 +228,8 @@ module _ (l f : List ℕ) (words : ℕ) where
 
   -- "each tied variable is held by both with one value or by neither", of one variable
   pub data SameValue (i j v : ℕ) : Type 0 where
-    both : getD (answer i .held) v false ≡ true → getD (answer j .held) v false ≡ true → getD (answer i .values) v 0 ≡ getD (answer j .values) v 0 → SameValue i j v
+    both : getD (answer i .held) v false ≡ true → getD (answer j .held) v false ≡ true → getD (answer i .values) v 0 ≡ getD (answer j .values) v 0
+        → SameValue i j v
     neither : getD (answer i .held) v false ≡ false → getD (answer j .held) v false ≡ false → SameValue i j v
 
   -- .. and the formula that f holds

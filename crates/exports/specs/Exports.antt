@@ -11,10 +11,10 @@ use Rattle.event_log.specs.declared.Verdict.the-variants as LogIs
 use Rattle.event_log.specs.declared.LogReading.{LogReading}
 use Rattle.event_log.specs.Read.{readLog, answerOf as logAnswer}
 use Rattle.formula.specs.Read.{readFormula}
-use Rattle.formula_reader.specs.declared.Verdict as FormulaVerdict
-use Rattle.formula_reader.specs.declared.Verdict.the-variants as FormulaIs
-use Rattle.formula_reader.specs.declared.FormulaReading.{FormulaReading}
-use Rattle.formula_reader.specs.Answer.{answerOf as formulaAnswer}
+use Rattle.formula_code.specs.declared.Verdict as FormulaVerdict
+use Rattle.formula_code.specs.declared.Verdict.the-variants as FormulaIs
+use Rattle.formula_code.specs.declared.FormulaReading.{FormulaReading}
+use Rattle.formula_code.specs.Answer.{answerOf as formulaAnswer}
 use Rattle.search.specs.declared.Verdict as SearchVerdict
 use Rattle.search.specs.declared.Verdict.the-variants as SearchIs
 use Rattle.search.specs.declared.SearchAnswer.{SearchAnswer}

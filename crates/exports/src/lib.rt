@@ -68,12 +68,12 @@ fn log_refusal(v: event_log::Verdict) -> Refused
 }
 
 // The refusal in a formula reader's verdict.
-fn formula_refusal(v: formula_reader::Verdict) -> Refused
+fn formula_refusal(v: formula_code::Verdict) -> Refused
     ensures { λ t. ⌜ t ≡ formulaRefusal v ⌝ }
 {
     match v {
-        formula_reader::Verdict::Accepted => none(),
-        formula_reader::Verdict::Refused(r) => three_of(r),
+        formula_code::Verdict::Accepted => none(),
+        formula_code::Verdict::Refused(r) => three_of(r),
     }
 }
 
@@ -130,7 +130,7 @@ pub extern "C" fn hikwallu_read_log(l: &[u8]) -> LogRead
 pub extern "C" fn hikwallu_read_formula(f: &[u8], fields: usize) -> Refused
     ensures { λ r. ⌜ ExportsFormula (now (f .entry)) fields r ⌝ }
 {
-    let reading = formula_reader::read_formula(f, fields);
+    let reading = formula_code::read_formula(f, fields);
     let verdict = reading.verdict;
     formula_refusal(verdict)
 }
@@ -140,7 +140,7 @@ pub extern "C" fn hikwallu_read_formula(f: &[u8], fields: usize) -> Refused
 pub extern "C" fn hikwallu_search(l: &[u8], f: &[u8], start: usize, work: &mut [u32]) -> Found
     ensures { λ r. ⌜ ExportsSearch (now (l .entry)) (now (f .entry)) start (now (work .entry)) (now (work .exit)) r ⌝ }
 {
-    let answer = engine::search(l, f, start, work);
+    let answer = search_code::search(l, f, start, work);
     let verdict = answer.verdict;
     let events = answer.events;
     let numbers = answer.numbers;
@@ -168,6 +168,6 @@ pub extern "C" fn hikwallu_analyse(
 ) -> Refused
     ensures { λ r. ⌜ ExportsAnalysis (now (l .entry)) (now (f .entry)) (now (work .entry)) (now (work .exit)) (now (rows .entry)) (now (rows .exit)) r ⌝ }
 {
-    let outcome = rows::analyse(l, f, work, rows);
+    let outcome = analysis_code::analyse(l, f, work, rows);
     outcome_refusal(outcome)
 }

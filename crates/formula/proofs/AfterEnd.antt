@@ -1,4 +1,5 @@
--- The checks after END: no STEP or COUNT names an absent state exactly when every named state is declared, and no TESTV or VAR is found unbound exactly when none is by the paths.
+-- The checks after END: no STEP or COUNT names an absent state exactly when every named state is declared, and no TESTV or VAR is found unbound
+-- exactly when none is by the paths.
 use Prim.Native.Nat.{ℕ, suc, _+_, _-_, _<_, _≤_}
 use mathlib.Core.Path.{_≡_, refl, sym, subst, _∙_}
 use mathlib.Core.Bool.{Bool, true, false, not, _&&_, true≢false}
@@ -10,24 +11,47 @@ use lib.Dec.{ltb}
 use lib.ListN.{length}
 use lib.Seq.{append-snoc}
 use Rattle.base.specs.Lists.{All}
-use Rattle.formula.specs.Formula.{Expr, CONST, VAR, COUNT, ADD, SUB, LESS, ATMOST, EQUAL, NOT, AND, OR, IF, Clause, TEST, TESTV, BIND, Step, State, Formula}
-use Rattle.formula.specs.Encode.{Command, TIED, STATE, STEP, CLAUSE, GUARD, guardCommands, stepCommands, stateCommands, commands, encodeExpr, encodeCommand}
+use Rattle.formula.specs.Formula.{Leaf, CONST, VAR, COUNT, Expr, LEAF, ADD, SUB, LESS, ATMOST, EQUAL, NOT, AND, OR, IF, Clause, TEST, TESTV}
+use Rattle.formula.specs.Formula.{BIND, Step, State, Formula}
+use Rattle.formula.specs.Encode.{Command, TIED, STATE, STEP, CLAUSE, GUARD, guardCommands, stepCommands, stateCommands, commands, encodeExpr}
+use Rattle.formula.specs.Encode.{encodeCommand}
 use Rattle.formula.specs.Unbound.{binds, Unbound, isUnbound}
-use Rattle.formula.specs.Correct.{Leaves, Value, Variable, Exists, ClauseBound, GuardBound, StepBound, AllBound}
-use Rattle.formula.specs.Read.{orElse, when, firstLeaf, absentIn, firstAbsent, unboundIn, firstUnbound}
-use Rattle.formula.proofs.Basics.{leaves-both}
+use Rattle.formula.specs.Correct.{Leaves, LeafExists, LeafBound, Exists, ClauseBound, GuardBound, StepBound, AllBound}
+use Rattle.formula.specs.Read.{orElse, when, firstLeaf, absentLeaf, absentIn, firstAbsent, unboundLeaf, unboundIn, firstUnbound}
+use Rattle.formula.proofs.Basics.{leaves-both, leaves-map}
+use Rattle.formula.proofs.Exprs.{LeafReads}
 use Rattle.formula.proofs.Commands.{Operands}
 use Rattle.formula.proofs.Closure.{unbound-path, path-unbound}
 
--- every state that the command names is declared
+-- the states that a leaf and a command name are declared
+abbrev pub LeafDeclared : ℕ → Leaf → Type 0
+LeafDeclared n (CONST x) = Unit {0}
+LeafDeclared n (VAR v) = Unit {0}
+LeafDeclared n (COUNT s) = s < n
+
 abbrev pub Declared : ℕ → Command → Type 0
 Declared n (TIED v) = Unit {0}
 Declared n (STATE k) = Unit {0}
 Declared n (STEP t) = t < n
 Declared n (CLAUSE c) = Unit {0}
-Declared n (GUARD e) = Leaves (λ v. Unit {0}) (λ v. Unit {0}) (λ s. s < n) e
+Declared n (GUARD e) = Leaves (LeafDeclared n) e
 
 -- what exists: the operands and the named states
+leaf-both : (n : ℕ) (l : Leaf) → LeafReads l → LeafDeclared n l → LeafExists n l
+leaf-both n (CONST x) r d = r
+leaf-both n (VAR v) r d = r
+leaf-both n (COUNT s) r d = d
+
+leaf-reads : (n : ℕ) (l : Leaf) → LeafExists n l → LeafReads l
+leaf-reads n (CONST x) h = h
+leaf-reads n (VAR v) h = h
+leaf-reads n (COUNT s) h = tt
+
+leaf-declared : (n : ℕ) (l : Leaf) → LeafExists n l → LeafDeclared n l
+leaf-declared n (CONST x) h = tt
+leaf-declared n (VAR v) h = tt
+leaf-declared n (COUNT s) h = h
+
 pub exists-both : (fields n : ℕ) (c : Command) → Operands fields c → Declared n c → Exists fields n c
 exists-both fields n (TIED v) o d = o
 exists-both fields n (STATE k) o d = tt
@@ -35,7 +59,7 @@ exists-both fields n (STEP t) o d = d
 exists-both fields n (CLAUSE (TEST f p v)) o d = o
 exists-both fields n (CLAUSE (TESTV f p v)) o d = o
 exists-both fields n (CLAUSE (BIND f v)) o d = o
-exists-both fields n (GUARD e) o d = leaves-both Value Variable (λ s. Unit {0}) (λ v. Unit {0}) (λ v. Unit {0}) (λ s. s < n) Value Variable (λ s. s < n) (λ v x y. x) (λ v x y. x) (λ v x y. y) e o d
+exists-both fields n (GUARD e) o d = leaves-both LeafReads (LeafDeclared n) (LeafExists n) (leaf-both n) e o d
 
 pub exists-operands : (fields n : ℕ) (c : Command) → Exists fields n c → Operands fields c
 exists-operands fields n (TIED v) x = x
@@ -44,7 +68,7 @@ exists-operands fields n (STEP t) x = tt
 exists-operands fields n (CLAUSE (TEST f p v)) x = x
 exists-operands fields n (CLAUSE (TESTV f p v)) x = x
 exists-operands fields n (CLAUSE (BIND f v)) x = x
-exists-operands fields n (GUARD e) x = leaves-both Value Variable (λ s. s < n) Value Variable (λ s. s < n) Value Variable (λ s. Unit {0}) (λ v x y. x) (λ v x y. x) (λ v x y. tt) e x x
+exists-operands fields n (GUARD e) x = leaves-map (LeafExists n) LeafReads (leaf-reads n) e x
 
 pub exists-declared : (fields n : ℕ) (c : Command) → Exists fields n c → Declared n c
 exists-declared fields n (TIED v) x = tt
@@ -53,7 +77,7 @@ exists-declared fields n (STEP t) x = x
 exists-declared fields n (CLAUSE (TEST f p v)) x = tt
 exists-declared fields n (CLAUSE (TESTV f p v)) x = tt
 exists-declared fields n (CLAUSE (BIND f v)) x = tt
-exists-declared fields n (GUARD e) x = leaves-both Value Variable (λ s. s < n) Value Variable (λ s. s < n) (λ v. Unit {0}) (λ v. Unit {0}) (λ s. s < n) (λ v x y. tt) (λ v x y. tt) (λ v x y. x) e x x
+exists-declared fields n (GUARD e) x = leaves-map (LeafExists n) (LeafDeclared n) (leaf-declared n) e x
 
 -- neither of two places is there exactly when none is
 else-left : (p q : Option ℕ) → orElse p q ≡ none → p ≡ none
@@ -76,61 +100,74 @@ when-false : (b : Bool) (at : ℕ) → b ≡ false → when b at ≡ none
 when-false b at e = rw e
 
 -- no leaf is bad
-abbrev Good : (ℕ → Bool) → (ℕ → Bool) → Expr → Type 0
-Good p q e = Leaves (λ v. Unit {0}) (λ v. p v ≡ false) (λ s. q s ≡ false) e
+abbrev Good : (Leaf → Bool) → Expr → Type 0
+Good p e = Leaves (λ l. p l ≡ false) e
 
-two-good : (p q : ℕ → Bool) (at k : ℕ) (a b : Expr) → (firstLeaf p q (at + 1) a ≡ none → Good p q a) → (firstLeaf p q k b ≡ none → Good p q b) → orElse (firstLeaf p q (at + 1) a) (firstLeaf p q k b) ≡ none → Good p q a × Good p q b
-two-good p q at k a b f g e = (f (else-left (firstLeaf p q (at + 1) a) (firstLeaf p q k b) e), g (else-right (firstLeaf p q (at + 1) a) (firstLeaf p q k b) e))
+two-good : (p : Leaf → Bool) (at k : ℕ) (a b : Expr) → (firstLeaf p (at + 1) a ≡ none → Good p a) → (firstLeaf p k b ≡ none → Good p b)
+    → orElse (firstLeaf p (at + 1) a) (firstLeaf p k b) ≡ none → Good p a × Good p b
+two-good p at k a b f g e = (f (else-left (firstLeaf p (at + 1) a) (firstLeaf p k b) e), g (else-right (firstLeaf p (at + 1) a) (firstLeaf p k b) e))
 
-leaf-good : (p q : ℕ → Bool) (at : ℕ) (e : Expr) → firstLeaf p q at e ≡ none → Good p q e
+leaf-good : (p : Leaf → Bool) (at : ℕ) (e : Expr) → firstLeaf p at e ≡ none → Good p e
 unfolding firstLeaf
-leaf-good p q at (CONST v) e = tt
-leaf-good p q at (VAR v) e = when-none (p v) at e
-leaf-good p q at (COUNT s) e = when-none (q s) at e
-leaf-good p q at (NOT a) e = leaf-good p q (at + 1) a e
-leaf-good p q at (ADD a b) e = two-good p q at (at + 1 + length (encodeExpr a)) a b (leaf-good p q (at + 1) a) (leaf-good p q (at + 1 + length (encodeExpr a)) b) e
-leaf-good p q at (SUB a b) e = two-good p q at (at + 1 + length (encodeExpr a)) a b (leaf-good p q (at + 1) a) (leaf-good p q (at + 1 + length (encodeExpr a)) b) e
-leaf-good p q at (LESS a b) e = two-good p q at (at + 1 + length (encodeExpr a)) a b (leaf-good p q (at + 1) a) (leaf-good p q (at + 1 + length (encodeExpr a)) b) e
-leaf-good p q at (ATMOST a b) e = two-good p q at (at + 1 + length (encodeExpr a)) a b (leaf-good p q (at + 1) a) (leaf-good p q (at + 1 + length (encodeExpr a)) b) e
-leaf-good p q at (EQUAL a b) e = two-good p q at (at + 1 + length (encodeExpr a)) a b (leaf-good p q (at + 1) a) (leaf-good p q (at + 1 + length (encodeExpr a)) b) e
-leaf-good p q at (AND a b) e = two-good p q at (at + 1 + length (encodeExpr a)) a b (leaf-good p q (at + 1) a) (leaf-good p q (at + 1 + length (encodeExpr a)) b) e
-leaf-good p q at (OR a b) e = two-good p q at (at + 1 + length (encodeExpr a)) a b (leaf-good p q (at + 1) a) (leaf-good p q (at + 1 + length (encodeExpr a)) b) e
-leaf-good p q at (IF c a b) e =
-    let x = firstLeaf p q (at + 1) c in
-    let y = firstLeaf p q (at + 1 + length (encodeExpr c)) a in
-    let z = firstLeaf p q (at + 1 + length (encodeExpr c) + length (encodeExpr a)) b in
-    let r = else-right x (orElse y z) e in
-    (leaf-good p q (at + 1) c (else-left x (orElse y z) e), leaf-good p q (at + 1 + length (encodeExpr c)) a (else-left y z r), leaf-good p q (at + 1 + length (encodeExpr c) + length (encodeExpr a)) b (else-right y z r))
+leaf-good p at (LEAF l) e = when-none (p l) at e
+leaf-good p at (NOT a) e = leaf-good p (at + 1) a e
+leaf-good p at (ADD a b) e = two-good p at (at + 1 + length (encodeExpr a)) a b (leaf-good p (at + 1) a) (leaf-good p (at + 1 + length (encodeExpr a)) b) e
+leaf-good p at (SUB a b) e = two-good p at (at + 1 + length (encodeExpr a)) a b (leaf-good p (at + 1) a) (leaf-good p (at + 1 + length (encodeExpr a)) b) e
+leaf-good p at (LESS a b) e = two-good p at (at + 1 + length (encodeExpr a)) a b (leaf-good p (at + 1) a) (leaf-good p (at + 1 + length (encodeExpr a)) b) e
+leaf-good p at (ATMOST a b) e = two-good p at (at + 1 + length (encodeExpr a)) a b (leaf-good p (at + 1) a) (leaf-good p (at + 1 + length (encodeExpr a)) b) e
+leaf-good p at (EQUAL a b) e = two-good p at (at + 1 + length (encodeExpr a)) a b (leaf-good p (at + 1) a) (leaf-good p (at + 1 + length (encodeExpr a)) b) e
+leaf-good p at (AND a b) e = two-good p at (at + 1 + length (encodeExpr a)) a b (leaf-good p (at + 1) a) (leaf-good p (at + 1 + length (encodeExpr a)) b) e
+leaf-good p at (OR a b) e = two-good p at (at + 1 + length (encodeExpr a)) a b (leaf-good p (at + 1) a) (leaf-good p (at + 1 + length (encodeExpr a)) b) e
+leaf-good p at (IF c a b) e =
+    let x = firstLeaf p (at + 1) c in
+    let y = firstLeaf p (at + 1 + length (encodeExpr c)) a in
+    let z = firstLeaf p (at + 1 + length (encodeExpr c) + length (encodeExpr a)) b in
+    let r = else-right x (orElse y z) e in (
+      leaf-good p (at + 1) c (else-left x (orElse y z) e),
+      leaf-good p (at + 1 + length (encodeExpr c)) a (else-left y z r),
+      leaf-good p (at + 1 + length (encodeExpr c) + length (encodeExpr a)) b (else-right y z r),
+    )
 
-leaf-none : (p q : ℕ → Bool) (at : ℕ) (e : Expr) → Good p q e → firstLeaf p q at e ≡ none
+leaf-none : (p : Leaf → Bool) (at : ℕ) (e : Expr) → Good p e → firstLeaf p at e ≡ none
 unfolding firstLeaf
-leaf-none p q at (CONST v) g = refl
-leaf-none p q at (VAR v) g = when-false (p v) at g
-leaf-none p q at (COUNT s) g = when-false (q s) at g
-leaf-none p q at (NOT a) g = leaf-none p q (at + 1) a g
-leaf-none p q at (ADD a b) g = else-none _ _ (leaf-none p q (at + 1) a (g .0)) (leaf-none p q (at + 1 + length (encodeExpr a)) b (g .1))
-leaf-none p q at (SUB a b) g = else-none _ _ (leaf-none p q (at + 1) a (g .0)) (leaf-none p q (at + 1 + length (encodeExpr a)) b (g .1))
-leaf-none p q at (LESS a b) g = else-none _ _ (leaf-none p q (at + 1) a (g .0)) (leaf-none p q (at + 1 + length (encodeExpr a)) b (g .1))
-leaf-none p q at (ATMOST a b) g = else-none _ _ (leaf-none p q (at + 1) a (g .0)) (leaf-none p q (at + 1 + length (encodeExpr a)) b (g .1))
-leaf-none p q at (EQUAL a b) g = else-none _ _ (leaf-none p q (at + 1) a (g .0)) (leaf-none p q (at + 1 + length (encodeExpr a)) b (g .1))
-leaf-none p q at (AND a b) g = else-none _ _ (leaf-none p q (at + 1) a (g .0)) (leaf-none p q (at + 1 + length (encodeExpr a)) b (g .1))
-leaf-none p q at (OR a b) g = else-none _ _ (leaf-none p q (at + 1) a (g .0)) (leaf-none p q (at + 1 + length (encodeExpr a)) b (g .1))
-leaf-none p q at (IF c a b) g = else-none _ _ (leaf-none p q (at + 1) c (g .0)) (else-none _ _ (leaf-none p q (at + 1 + length (encodeExpr c)) a (g .1)) (leaf-none p q (at + 1 + length (encodeExpr c) + length (encodeExpr a)) b (g .2)))
+leaf-none p at (LEAF l) g = when-false (p l) at g
+leaf-none p at (NOT a) g = leaf-none p (at + 1) a g
+leaf-none p at (ADD a b) g = else-none _ _ (leaf-none p (at + 1) a (g .0)) (leaf-none p (at + 1 + length (encodeExpr a)) b (g .1))
+leaf-none p at (SUB a b) g = else-none _ _ (leaf-none p (at + 1) a (g .0)) (leaf-none p (at + 1 + length (encodeExpr a)) b (g .1))
+leaf-none p at (LESS a b) g = else-none _ _ (leaf-none p (at + 1) a (g .0)) (leaf-none p (at + 1 + length (encodeExpr a)) b (g .1))
+leaf-none p at (ATMOST a b) g = else-none _ _ (leaf-none p (at + 1) a (g .0)) (leaf-none p (at + 1 + length (encodeExpr a)) b (g .1))
+leaf-none p at (EQUAL a b) g = else-none _ _ (leaf-none p (at + 1) a (g .0)) (leaf-none p (at + 1 + length (encodeExpr a)) b (g .1))
+leaf-none p at (AND a b) g = else-none _ _ (leaf-none p (at + 1) a (g .0)) (leaf-none p (at + 1 + length (encodeExpr a)) b (g .1))
+leaf-none p at (OR a b) g = else-none _ _ (leaf-none p (at + 1) a (g .0)) (leaf-none p (at + 1 + length (encodeExpr a)) b (g .1))
+leaf-none p at (IF c a b) g =
+    else-none _ _ (leaf-none p (at + 1) c (g .0))
+    (else-none _ _ (leaf-none p (at + 1 + length (encodeExpr c)) a (g .1))
+    (leaf-none p (at + 1 + length (encodeExpr c) + length (encodeExpr a)) b (g .2)))
 
--- nothing absent in one command
+-- nothing absent in one leaf, and in one command
+absent-leaf : (n : ℕ) (l : Leaf) → absentLeaf n l ≡ false → LeafDeclared n l
+absent-leaf n (CONST x) e = tt
+absent-leaf n (VAR v) e = tt
+absent-leaf n (COUNT s) e = ltb-true s n (not-false (ltb s n) e)
+
+declared-leaf : (n : ℕ) (l : Leaf) → LeafDeclared n l → absentLeaf n l ≡ false
+declared-leaf n (CONST x) d = refl
+declared-leaf n (VAR v) d = refl
+declared-leaf n (COUNT s) d = rw (lt-ltb s n d)
+
 absent-in : (n at : ℕ) (c : Command) → absentIn n at c ≡ none → Declared n c
 absent-in n at (TIED v) e = tt
 absent-in n at (STATE k) e = tt
 absent-in n at (STEP t) e = ltb-true t n (not-false (ltb t n) (when-none (not (ltb t n)) at e))
 absent-in n at (CLAUSE c) e = tt
-absent-in n at (GUARD x) e = leaves-both (λ v. Unit {0}) (λ v. false ≡ false) (λ s. not (ltb s n) ≡ false) (λ v. Unit {0}) (λ v. false ≡ false) (λ s. not (ltb s n) ≡ false) (λ v. Unit {0}) (λ v. Unit {0}) (λ s. s < n) (λ v a b. tt) (λ v a b. tt) (λ s a b. ltb-true s n (not-false (ltb s n) a)) x (leaf-good (λ v. false) (λ s. not (ltb s n)) (at + 1) x e) (leaf-good (λ v. false) (λ s. not (ltb s n)) (at + 1) x e)
+absent-in n at (GUARD x) e = leaves-map (λ l. absentLeaf n l ≡ false) (LeafDeclared n) (absent-leaf n) x (leaf-good (absentLeaf n) (at + 1) x e)
 
 in-declared : (n at : ℕ) (c : Command) → Declared n c → absentIn n at c ≡ none
 in-declared n at (TIED v) d = refl
 in-declared n at (STATE k) d = refl
 in-declared n at (STEP t) d = rw (lt-ltb t n d)
 in-declared n at (CLAUSE c) d = refl
-in-declared n at (GUARD x) d = leaf-none (λ v. false) (λ s. not (ltb s n)) (at + 1) x (leaves-both (λ v. Unit {0}) (λ v. Unit {0}) (λ s. s < n) (λ v. Unit {0}) (λ v. Unit {0}) (λ s. s < n) (λ v. Unit {0}) (λ v. false ≡ false) (λ s. not (ltb s n) ≡ false) (λ v a b. tt) (λ v a b. refl) (λ s a b. rw (lt-ltb s n a)) x d d)
+in-declared n at (GUARD x) d = leaf-none (absentLeaf n) (at + 1) x (leaves-map (LeafDeclared n) (λ l. absentLeaf n l ≡ false) (declared-leaf n) x d)
 
 -- no absent state is found exactly when every named state is declared
 pub none-absent : (n at : ℕ) (cs : List Command) → firstAbsent n at cs ≡ none → All (Declared n) cs
@@ -143,7 +180,9 @@ none-absent n at (c ∷ cs) e =
 pub declared-none : (n at : ℕ) (cs : List Command) → All (Declared n) cs → firstAbsent n at cs ≡ none
 unfolding firstAbsent
 declared-none n at [] d = refl
-declared-none n at (c ∷ cs) d = else-none (absentIn n at c) (firstAbsent n (at + length (encodeCommand c)) cs) (in-declared n at c (d .0)) (declared-none n (at + length (encodeCommand c)) cs (d .1))
+declared-none n at (c ∷ cs) d =
+    else-none (absentIn n at c) (firstAbsent n (at + length (encodeCommand c)) cs) (in-declared n at c (d .0))
+    (declared-none n (at + length (encodeCommand c)) cs (d .1))
 
 -- the marks decide what is unbound
 marks-no : (f : Formula) (v s : ℕ) → length (f .states) ≤ 16 → s < 16 → isUnbound f v s ≡ false → ¬ Unbound f v s
@@ -165,6 +204,22 @@ not-and true true h = refl
 not-and true false h = h refl
 not-and false b h = refl
 
+-- a leaf behind the clauses own, in state s
+unbound-leaf : (f : Formula) (s : ℕ) (own : List Clause) (l : Leaf) → length (f .states) ≤ 16 → s < 16
+    → unboundLeaf (isUnbound f) (suc s) own l ≡ false → LeafBound f s own l
+unbound-leaf f s own (CONST x) few h e = tt
+unbound-leaf f s own (VAR v) few h e =
+    let d : suc s - 1 ≡ s = omega arith in
+    λ r. marks-no f v s few h (subst (λ j. isUnbound f v j ≡ false) d (and-not (isUnbound f v (suc s - 1)) (binds v own) e r))
+unbound-leaf f s own (COUNT t) few h e = tt
+
+bound-leaf : (f : Formula) (s : ℕ) (own : List Clause) (l : Leaf) → LeafBound f s own l → unboundLeaf (isUnbound f) (suc s) own l ≡ false
+bound-leaf f s own (CONST x) b = refl
+bound-leaf f s own (VAR v) b =
+    let d : suc s - 1 ≡ s = omega arith in
+    not-and (isUnbound f v (suc s - 1)) (binds v own) (λ r. subst (λ j. isUnbound f v j ≡ false) (sym d) (marks-false f v s (b r)))
+bound-leaf f s own (COUNT t) b = refl
+
 -- nothing unbound is found in the commands cs, from some offset and with some clauses before
 record Free (f : Formula) (seen : ℕ) (cs : List Command) : Type 0 where
   own : List Clause
@@ -172,7 +227,9 @@ record Free (f : Formula) (seen : ℕ) (cs : List Command) : Type 0 where
   free : firstUnbound (isUnbound f) seen own at cs ≡ none
 
 module _ (f : Formula) (few : length (f .states) ≤ 16) where
-  free-clauses : (xs : List Clause) (s : ℕ) (own : List Clause) (at : ℕ) (cs : List Command) → s < 16 → firstUnbound (isUnbound f) (suc s) own at (map CLAUSE xs ++ cs) ≡ none → All (ClauseBound f s) xs × ((k : ℕ) × (firstUnbound (isUnbound f) (suc s) (own ++ xs) k cs ≡ none))
+  free-clauses : (xs : List Clause) (s : ℕ) (own : List Clause) (at : ℕ) (cs : List Command) → s < 16
+      → firstUnbound (isUnbound f) (suc s) own at (map CLAUSE xs ++ cs) ≡ none
+      → All (ClauseBound f s) xs × ((k : ℕ) × (firstUnbound (isUnbound f) (suc s) (own ++ xs) k cs ≡ none))
   unfolding firstUnbound
   free-clauses [] s own at cs h e = (tt, (at, rw (append-nil own) e))
   free-clauses (x ∷ xs) s own at cs h e =
@@ -189,30 +246,38 @@ module _ (f : Formula) (few : length (f .states) ≤ 16) where
           marks-no f v s few h (rw d at (when-none (isUnbound f v (suc s - 1)) at z))
       first (BIND g v) z = tt
 
-  free-guard : (o : Option Expr) (s : ℕ) (own : List Clause) (at : ℕ) (cs : List Command) → s < 16 → firstUnbound (isUnbound f) (suc s) own at (guardCommands o ++ cs) ≡ none → GuardBound f s own o × Free f (suc s) cs
+  free-guard : (o : Option Expr) (s : ℕ) (own : List Clause) (at : ℕ) (cs : List Command) → s < 16
+      → firstUnbound (isUnbound f) (suc s) own at (guardCommands o ++ cs) ≡ none → GuardBound f s own o × Free f (suc s) cs
   unfolding firstUnbound guardCommands
   free-guard none s own at cs h e = (tt, record { own = own; at = at; free = e })
   free-guard (some x) s own at cs h e =
       let n = at + length (encodeCommand (GUARD x)) in
       let p = unboundIn (isUnbound f) (suc s) own at (GUARD x) in
       let q = firstUnbound (isUnbound f) (suc s) own n cs in
-      let g : Good (λ v. isUnbound f v (suc s - 1) && not (binds v own)) (λ t. false) x = leaf-good (λ v. isUnbound f v (suc s - 1) && not (binds v own)) (λ t. false) (at + 1) x (else-left p q e) in
-      let d : suc s - 1 ≡ s = omega arith in
-      (leaves-both (λ v. Unit {0}) (λ v. isUnbound f v (suc s - 1) && not (binds v own) ≡ false) (λ t. false ≡ false) (λ v. Unit {0}) (λ v. isUnbound f v (suc s - 1) && not (binds v own) ≡ false) (λ t. false ≡ false) (λ v. Unit {0}) (λ v. binds v own ≡ false → ¬ Unbound f v s) (λ t. Unit {0}) (λ v a b. tt) (λ v a b r. marks-no f v s few h (subst (λ j. isUnbound f v j ≡ false) d (and-not (isUnbound f v (suc s - 1)) (binds v own) a r))) (λ t a b. tt) x g g, record { own = own; at = n; free = else-right p q e })
+      let un = unboundLeaf (isUnbound f) (suc s) own in
+      let g : Good un x = leaf-good un (at + 1) x (else-left p q e) in
+      (leaves-map (λ l. un l ≡ false) (LeafBound f s own) (λ l. unbound-leaf f s own l few h) x g, record { own = own; at = n; free = else-right p q e })
 
-  free-steps : (xs : List Step) (s : ℕ) (own : List Clause) (at : ℕ) (cs : List Command) → s < 16 → firstUnbound (isUnbound f) (suc s) own at (flatMap stepCommands xs ++ cs) ≡ none → All (StepBound f s) xs × Free f (suc s) cs
+  free-steps : (xs : List Step) (s : ℕ) (own : List Clause) (at : ℕ) (cs : List Command) → s < 16
+      → firstUnbound (isUnbound f) (suc s) own at (flatMap stepCommands xs ++ cs) ≡ none → All (StepBound f s) xs × Free f (suc s) cs
   unfolding firstUnbound flatMap stepCommands
   free-steps [] s own at cs h e = (tt, record { own = own; at = at; free = e })
   free-steps (x ∷ xs) s own at cs h e =
       let rest = flatMap stepCommands xs ++ cs in
       let n = at + length (encodeCommand (STEP (x .target))) in
-      let z : firstUnbound (isUnbound f) (suc s) [] n (map CLAUSE (x .clauses) ++ (guardCommands (x .guard) ++ rest)) ≡ none = rw (append-assoc (map CLAUSE (x .clauses) ++ guardCommands (x .guard)) (flatMap stepCommands xs) cs, append-assoc (map CLAUSE (x .clauses)) (guardCommands (x .guard)) rest) at e in
+      let z : firstUnbound (isUnbound f) (suc s) [] n (map CLAUSE (x .clauses) ++ (guardCommands (x .guard) ++ rest)) ≡ none =
+      rw (
+        append-assoc (map CLAUSE (x .clauses) ++ guardCommands (x .guard)) (flatMap stepCommands xs) cs,
+        append-assoc (map CLAUSE (x .clauses)) (guardCommands (x .guard)) rest,
+      )
+      at e in
       let a = free-clauses (x .clauses) s [] n (guardCommands (x .guard) ++ rest) h z in
       let b = free-guard (x .guard) s (x .clauses) (a .1 .0) rest h (a .1 .1) in
       let c = free-steps xs s (b .1 .own) (b .1 .at) cs h (b .1 .free) in
       ((record { clauses = a .0; guard = b .0 }, c .0), c .1)
 
-  free-states : (xs : List State) (s : ℕ) (own : List Clause) (at : ℕ) → s + length xs ≤ 16 → firstUnbound (isUnbound f) s own at (flatMap stateCommands xs) ≡ none → AllBound f s xs
+  free-states : (xs : List State) (s : ℕ) (own : List Clause) (at : ℕ) → s + length xs ≤ 16
+      → firstUnbound (isUnbound f) s own at (flatMap stateCommands xs) ≡ none → AllBound f s xs
   unfolding firstUnbound flatMap stateCommands
   free-states [] s own at h e = tt
   free-states (x ∷ xs) s own at h e =
@@ -232,10 +297,14 @@ module _ (f : Formula) (few : length (f .states) ≤ 16) where
       free-states (f .states) 0 (a .own) (a .at) (omega arith) (a .free)
 
 module _ (f : Formula) where
-  bound-clauses : (xs : List Clause) (s : ℕ) (own : List Clause) (at : ℕ) (cs : List Command) → All (ClauseBound f s) xs → ((k : ℕ) → firstUnbound (isUnbound f) (suc s) (own ++ xs) k cs ≡ none) → firstUnbound (isUnbound f) (suc s) own at (map CLAUSE xs ++ cs) ≡ none
+  bound-clauses : (xs : List Clause) (s : ℕ) (own : List Clause) (at : ℕ) (cs : List Command) → All (ClauseBound f s) xs
+      → ((k : ℕ) → firstUnbound (isUnbound f) (suc s) (own ++ xs) k cs ≡ none)
+      → firstUnbound (isUnbound f) (suc s) own at (map CLAUSE xs ++ cs) ≡ none
   unfolding firstUnbound
   bound-clauses [] s own at cs h c = rw (append-nil own) at (c at)
-  bound-clauses (x ∷ xs) s own at cs h c = else-none (unboundIn (isUnbound f) (suc s) own at (CLAUSE x)) _ (first x (h .0)) (bound-clauses xs s (own ++ (x ∷ [])) (at + length (encodeCommand (CLAUSE x))) cs (h .1) (λ k. rw (append-snoc own x xs) (c k)))
+  bound-clauses (x ∷ xs) s own at cs h c =
+      else-none (unboundIn (isUnbound f) (suc s) own at (CLAUSE x)) _ (first x (h .0))
+      (bound-clauses xs s (own ++ (x ∷ [])) (at + length (encodeCommand (CLAUSE x))) cs (h .1) (λ k. rw (append-snoc own x xs) (c k)))
     where
       first : (y : Clause) → ClauseBound f s y → unboundIn (isUnbound f) (suc s) own at (CLAUSE y) ≡ none
       first (TEST g o z) b = refl
@@ -244,28 +313,40 @@ module _ (f : Formula) where
           rw d (when-false (isUnbound f v s) at (marks-false f v s b))
       first (BIND g v) b = refl
 
-  bound-guard : (o : Option Expr) (s : ℕ) (own : List Clause) (at : ℕ) (cs : List Command) → GuardBound f s own o → ((k : ℕ) → firstUnbound (isUnbound f) (suc s) own k cs ≡ none) → firstUnbound (isUnbound f) (suc s) own at (guardCommands o ++ cs) ≡ none
+  bound-guard : (o : Option Expr) (s : ℕ) (own : List Clause) (at : ℕ) (cs : List Command) → GuardBound f s own o
+      → ((k : ℕ) → firstUnbound (isUnbound f) (suc s) own k cs ≡ none) → firstUnbound (isUnbound f) (suc s) own at (guardCommands o ++ cs) ≡ none
   unfolding firstUnbound guardCommands
   bound-guard none s own at cs h c = c at
   bound-guard (some x) s own at cs h c =
-      let d : suc s - 1 ≡ s = omega arith in
-      let g : Good (λ v. isUnbound f v (suc s - 1) && not (binds v own)) (λ t. false) x = leaves-both (λ v. Unit {0}) (λ v. binds v own ≡ false → ¬ Unbound f v s) (λ t. Unit {0}) (λ v. Unit {0}) (λ v. binds v own ≡ false → ¬ Unbound f v s) (λ t. Unit {0}) (λ v. Unit {0}) (λ v. isUnbound f v (suc s - 1) && not (binds v own) ≡ false) (λ t. false ≡ false) (λ v a b. tt) (λ v a b. not-and (isUnbound f v (suc s - 1)) (binds v own) (λ r. subst (λ j. isUnbound f v j ≡ false) (sym d) (marks-false f v s (a r)))) (λ t a b. refl) x h h in
-      else-none (unboundIn (isUnbound f) (suc s) own at (GUARD x)) _ (leaf-none (λ v. isUnbound f v (suc s - 1) && not (binds v own)) (λ t. false) (at + 1) x g) (c (at + length (encodeCommand (GUARD x))))
+      let un = unboundLeaf (isUnbound f) (suc s) own in
+      let g : Good un x = leaves-map (LeafBound f s own) (λ l. un l ≡ false) (bound-leaf f s own) x h in
+      else-none (unboundIn (isUnbound f) (suc s) own at (GUARD x)) _ (leaf-none un (at + 1) x g) (c (at + length (encodeCommand (GUARD x))))
 
-  bound-steps : (xs : List Step) (s : ℕ) (own : List Clause) (at : ℕ) (cs : List Command) → All (StepBound f s) xs → ((o : List Clause) (k : ℕ) → firstUnbound (isUnbound f) (suc s) o k cs ≡ none) → firstUnbound (isUnbound f) (suc s) own at (flatMap stepCommands xs ++ cs) ≡ none
+  bound-steps : (xs : List Step) (s : ℕ) (own : List Clause) (at : ℕ) (cs : List Command) → All (StepBound f s) xs
+      → ((o : List Clause) (k : ℕ) → firstUnbound (isUnbound f) (suc s) o k cs ≡ none)
+      → firstUnbound (isUnbound f) (suc s) own at (flatMap stepCommands xs ++ cs) ≡ none
   unfolding firstUnbound flatMap stepCommands
   bound-steps [] s own at cs h c = c own at
   bound-steps (x ∷ xs) s own at cs h c =
       let rest = flatMap stepCommands xs ++ cs in
       let n = at + length (encodeCommand (STEP (x .target))) in
-      rw (append-assoc (map CLAUSE (x .clauses) ++ guardCommands (x .guard)) (flatMap stepCommands xs) cs, append-assoc (map CLAUSE (x .clauses)) (guardCommands (x .guard)) rest) (bound-clauses (x .clauses) s [] n (guardCommands (x .guard) ++ rest) (h .0 .clauses) (λ k. bound-guard (x .guard) s (x .clauses) k rest (h .0 .guard) (λ j. bound-steps xs s (x .clauses) j cs (h .1) c)))
+      rw (
+        append-assoc (map CLAUSE (x .clauses) ++ guardCommands (x .guard)) (flatMap stepCommands xs) cs,
+        append-assoc (map CLAUSE (x .clauses)) (guardCommands (x .guard)) rest,
+      )
+      (bound-clauses (x .clauses) s [] n (guardCommands (x .guard) ++ rest) (h .0 .clauses)
+      (λ k. bound-guard (x .guard) s (x .clauses) k rest (h .0 .guard) (λ j. bound-steps xs s (x .clauses) j cs (h .1) c)))
 
-  bound-states : (xs : List State) (s : ℕ) (own : List Clause) (at : ℕ) → AllBound f s xs → firstUnbound (isUnbound f) s own at (flatMap stateCommands xs) ≡ none
+  bound-states : (xs : List State) (s : ℕ) (own : List Clause) (at : ℕ) → AllBound f s xs
+      → firstUnbound (isUnbound f) s own at (flatMap stateCommands xs) ≡ none
   unfolding firstUnbound flatMap stateCommands
   bound-states [] s own at h = refl
-  bound-states (x ∷ xs) s own at h = bound-steps (x .steps) s [] (at + length (encodeCommand (STATE (x .kind)))) (flatMap stateCommands xs) (h .0) (λ o k. bound-states xs (suc s) o k (h .1))
+  bound-states (x ∷ xs) s own at h =
+      bound-steps (x .steps) s [] (at + length (encodeCommand (STATE (x .kind)))) (flatMap stateCommands xs) (h .0)
+      (λ o k. bound-states xs (suc s) o k (h .1))
 
-  bound-tied : (vs : List ℕ) (own : List Clause) (at : ℕ) (cs : List Command) → ((k : ℕ) → firstUnbound (isUnbound f) 0 own k cs ≡ none) → firstUnbound (isUnbound f) 0 own at (map TIED vs ++ cs) ≡ none
+  bound-tied : (vs : List ℕ) (own : List Clause) (at : ℕ) (cs : List Command) → ((k : ℕ) → firstUnbound (isUnbound f) 0 own k cs ≡ none)
+      → firstUnbound (isUnbound f) 0 own at (map TIED vs ++ cs) ≡ none
   unfolding firstUnbound
   bound-tied [] own at cs c = c at
   bound-tied (v ∷ vs) own at cs c = bound-tied vs own (at + length (encodeCommand (TIED v))) cs c

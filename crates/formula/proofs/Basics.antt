@@ -9,7 +9,7 @@ use lib.ListN.{length, drop}
 use lib.Seq.{drop-at}
 use Rattle.base.proofs.Tests.{cond-holds}
 use Rattle.base.specs.Lists.{All, Bytes}
-use Rattle.formula.specs.Formula.{Expr, CONST, VAR, COUNT, ADD, SUB, LESS, ATMOST, EQUAL, NOT, AND, OR, IF}
+use Rattle.formula.specs.Formula.{Leaf, Expr, LEAF, ADD, SUB, LESS, ATMOST, EQUAL, NOT, AND, OR, IF}
 use Rattle.formula.specs.Correct.{Leaves}
 
 -- a choice by a byte: the branch's property at that byte, or that of the other choices
@@ -27,19 +27,21 @@ pub behind : (l x t : List ℕ) (u : ℕ) → l ≡ x ++ t → u ≡ length x �
 behind l x t u e h = rw e (drop-at x t u (sym h))
 
 -- properties of the leaves, put together leaf by leaf
-pub leaves-both : (P Q R P₁ Q₁ R₁ P₂ Q₂ R₂ : ℕ → Type 0) → ((v : ℕ) → P v → P₁ v → P₂ v) → ((v : ℕ) → Q v → Q₁ v → Q₂ v) → ((v : ℕ) → R v → R₁ v → R₂ v) → (e : Expr) → Leaves P Q R e → Leaves P₁ Q₁ R₁ e → Leaves P₂ Q₂ R₂ e
-leaves-both P Q R P₁ Q₁ R₁ P₂ Q₂ R₂ f g h (CONST v) x y = f v x y
-leaves-both P Q R P₁ Q₁ R₁ P₂ Q₂ R₂ f g h (VAR v) x y = g v x y
-leaves-both P Q R P₁ Q₁ R₁ P₂ Q₂ R₂ f g h (COUNT v) x y = h v x y
-leaves-both P Q R P₁ Q₁ R₁ P₂ Q₂ R₂ f g h (ADD a b) x y = (leaves-both P Q R P₁ Q₁ R₁ P₂ Q₂ R₂ f g h a (x .0) (y .0), leaves-both P Q R P₁ Q₁ R₁ P₂ Q₂ R₂ f g h b (x .1) (y .1))
-leaves-both P Q R P₁ Q₁ R₁ P₂ Q₂ R₂ f g h (SUB a b) x y = (leaves-both P Q R P₁ Q₁ R₁ P₂ Q₂ R₂ f g h a (x .0) (y .0), leaves-both P Q R P₁ Q₁ R₁ P₂ Q₂ R₂ f g h b (x .1) (y .1))
-leaves-both P Q R P₁ Q₁ R₁ P₂ Q₂ R₂ f g h (LESS a b) x y = (leaves-both P Q R P₁ Q₁ R₁ P₂ Q₂ R₂ f g h a (x .0) (y .0), leaves-both P Q R P₁ Q₁ R₁ P₂ Q₂ R₂ f g h b (x .1) (y .1))
-leaves-both P Q R P₁ Q₁ R₁ P₂ Q₂ R₂ f g h (ATMOST a b) x y = (leaves-both P Q R P₁ Q₁ R₁ P₂ Q₂ R₂ f g h a (x .0) (y .0), leaves-both P Q R P₁ Q₁ R₁ P₂ Q₂ R₂ f g h b (x .1) (y .1))
-leaves-both P Q R P₁ Q₁ R₁ P₂ Q₂ R₂ f g h (EQUAL a b) x y = (leaves-both P Q R P₁ Q₁ R₁ P₂ Q₂ R₂ f g h a (x .0) (y .0), leaves-both P Q R P₁ Q₁ R₁ P₂ Q₂ R₂ f g h b (x .1) (y .1))
-leaves-both P Q R P₁ Q₁ R₁ P₂ Q₂ R₂ f g h (NOT a) x y = leaves-both P Q R P₁ Q₁ R₁ P₂ Q₂ R₂ f g h a x y
-leaves-both P Q R P₁ Q₁ R₁ P₂ Q₂ R₂ f g h (AND a b) x y = (leaves-both P Q R P₁ Q₁ R₁ P₂ Q₂ R₂ f g h a (x .0) (y .0), leaves-both P Q R P₁ Q₁ R₁ P₂ Q₂ R₂ f g h b (x .1) (y .1))
-leaves-both P Q R P₁ Q₁ R₁ P₂ Q₂ R₂ f g h (OR a b) x y = (leaves-both P Q R P₁ Q₁ R₁ P₂ Q₂ R₂ f g h a (x .0) (y .0), leaves-both P Q R P₁ Q₁ R₁ P₂ Q₂ R₂ f g h b (x .1) (y .1))
-leaves-both P Q R P₁ Q₁ R₁ P₂ Q₂ R₂ f g h (IF c a b) x y = (leaves-both P Q R P₁ Q₁ R₁ P₂ Q₂ R₂ f g h c (x .0) (y .0), leaves-both P Q R P₁ Q₁ R₁ P₂ Q₂ R₂ f g h a (x .1) (y .1), leaves-both P Q R P₁ Q₁ R₁ P₂ Q₂ R₂ f g h b (x .2) (y .2))
+pub leaves-both : (P Q R : Leaf → Type 0) → ((l : Leaf) → P l → Q l → R l) → (e : Expr) → Leaves P e → Leaves Q e → Leaves R e
+leaves-both P Q R f (LEAF l) x y = f l x y
+leaves-both P Q R f (ADD a b) x y = (leaves-both P Q R f a (x .0) (y .0), leaves-both P Q R f b (x .1) (y .1))
+leaves-both P Q R f (SUB a b) x y = (leaves-both P Q R f a (x .0) (y .0), leaves-both P Q R f b (x .1) (y .1))
+leaves-both P Q R f (LESS a b) x y = (leaves-both P Q R f a (x .0) (y .0), leaves-both P Q R f b (x .1) (y .1))
+leaves-both P Q R f (ATMOST a b) x y = (leaves-both P Q R f a (x .0) (y .0), leaves-both P Q R f b (x .1) (y .1))
+leaves-both P Q R f (EQUAL a b) x y = (leaves-both P Q R f a (x .0) (y .0), leaves-both P Q R f b (x .1) (y .1))
+leaves-both P Q R f (NOT a) x y = leaves-both P Q R f a x y
+leaves-both P Q R f (AND a b) x y = (leaves-both P Q R f a (x .0) (y .0), leaves-both P Q R f b (x .1) (y .1))
+leaves-both P Q R f (OR a b) x y = (leaves-both P Q R f a (x .0) (y .0), leaves-both P Q R f b (x .1) (y .1))
+leaves-both P Q R f (IF c a b) x y = (leaves-both P Q R f c (x .0) (y .0), leaves-both P Q R f a (x .1) (y .1), leaves-both P Q R f b (x .2) (y .2))
+
+-- a property of each leaf, from leaf to leaf
+pub leaves-map : (P Q : Leaf → Type 0) → ((l : Leaf) → P l → Q l) → (e : Expr) → Leaves P e → Leaves Q e
+leaves-map P Q f e x = leaves-both P P Q (λ l a b. f l a) e x x
 
 -- a property of all elements, from element to element, and of a list in two parts
 pub all-both {ℓ} : {A : Type ℓ} (P Q R : A → Type 0) → ((x : A) → P x → Q x → R x) → (xs : List A) → All P xs → All Q xs → All R xs

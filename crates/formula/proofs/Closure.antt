@@ -28,7 +28,9 @@ set-keeps (x ∷ m) (suc k) (suc t) h = set-keeps m k t h
 
 mark-keeps : (v : ℕ) (m : List Bool) (e : Edge) (t : ℕ) → getD m t false ≡ true → getD (mark v m e) t false ≡ true
 unfolding mark
-mark-keeps v m e t h = cond-holds (λ r. getD r t false ≡ true) (getD m (e .from) false && not (binds v (e .step .clauses))) (set m (e .step .target) true) m (λ c. set-keeps m (e .step .target) t h) (λ c. h)
+mark-keeps v m e t h =
+    cond-holds (λ r. getD r t false ≡ true) (getD m (e .from) false && not (binds v (e .step .clauses))) (set m (e .step .target) true) m
+    (λ c. set-keeps m (e .step .target) t h) (λ c. h)
 
 abbrev edge : ℕ → Step → Edge
 edge s x = record { from = s; step = x }
@@ -38,16 +40,20 @@ abbrev pub noState : State
 noState = record { kind = ordinary; steps = [] }
 
 -- a property of every step of every state is one of all edges, and back
-edges-in : (P : Edge → Type 0) (xs : List State) (s : ℕ) → ((i : ℕ) (x : Step) → List·Memᴰ x (getD xs i noState .steps) → P (edge (s + i) x)) → All P (edgesFrom s xs)
+edges-in : (P : Edge → Type 0) (xs : List State) (s : ℕ) → ((i : ℕ) (x : Step) → List·Memᴰ x (getD xs i noState .steps) → P (edge (s + i) x))
+    → All P (edgesFrom s xs)
 unfolding edgesFrom
 edges-in P [] s h = tt
-edges-in P (y ∷ ys) s h = All-append P (map (edge s) (y .steps)) (edgesFrom (suc s) ys) (each (y .steps) (λ x m. rw (add-zero s) at (h 0 x m))) (edges-in P ys (suc s) (λ i x m. subst (λ j. P (edge j x)) (add-suc s i ∙ sym (suc-add s i)) (h (suc i) x m)))
+edges-in P (y ∷ ys) s h =
+    All-append P (map (edge s) (y .steps)) (edgesFrom (suc s) ys) (each (y .steps) (λ x m. rw (add-zero s) at (h 0 x m)))
+    (edges-in P ys (suc s) (λ i x m. subst (λ j. P (edge j x)) (add-suc s i ∙ sym (suc-add s i)) (h (suc i) x m)))
   where
     each : (ts : List Step) → ((x : Step) → List·Memᴰ x ts → P (edge s x)) → All P (map (edge s) ts)
     each [] k = tt
     each (t ∷ ts) k = (k t (List·Memᴰ·head refl), each ts (λ x m. k x (List·Memᴰ·tail m)))
 
-edges-out : (P : Edge → Type 0) (xs : List State) (s : ℕ) → All P (edgesFrom s xs) → (i : ℕ) (x : Step) → List·Memᴰ x (getD xs i noState .steps) → P (edge (s + i) x)
+edges-out : (P : Edge → Type 0) (xs : List State) (s : ℕ) → All P (edgesFrom s xs) → (i : ℕ) (x : Step) → List·Memᴰ x (getD xs i noState .steps)
+    → P (edge (s + i) x)
 unfolding edgesFrom
 edges-out P [] s h i x m = absurd (List·Memᴰ·not-nil m)
 edges-out P (y ∷ ys) s h zero x m = rw (add-zero s) (each (y .steps) (all-left P (map (edge s) (y .steps)) (edgesFrom (suc s) ys) h) m)
@@ -55,7 +61,9 @@ edges-out P (y ∷ ys) s h zero x m = rw (add-zero s) (each (y .steps) (all-left
     each : (ts : List Step) → All P (map (edge s) ts) → List·Memᴰ x ts → P (edge s x)
     each [] k q = absurd (List·Memᴰ·not-nil q)
     each (t ∷ ts) k q = elim (List·Memᴰ·cases-cons q) [ inl e ↦ subst (λ z. P (edge s z)) (sym e) (k .0) | inr r ↦ each ts (k .1) r ]
-edges-out P (y ∷ ys) s h (suc i) x m = subst (λ j. P (edge j x)) (suc-add s i ∙ sym (add-suc s i)) (edges-out P ys (suc s) (all-right P (map (edge s) (y .steps)) (edgesFrom (suc s) ys) h) i x m)
+edges-out P (y ∷ ys) s h (suc i) x m =
+    subst (λ j. P (edge j x)) (suc-add s i ∙ sym (add-suc s i))
+    (edges-out P ys (suc s) (all-right P (map (edge s) (y .steps)) (edgesFrom (suc s) ys) h) i x m)
 
 -- a path one step longer
 path-snoc : (f : Formula) (p : List Step) (s t : ℕ) (x : Step) → IsPath f s p t → List·Memᴰ x (stepsOf f t) → IsPath f s (p ++ (x ∷ [])) (x .target)
@@ -66,15 +74,27 @@ path-snoc f (y ∷ p) s t x h m = (h .0, path-snoc f p (y .target) t x (h .1) m)
 Marked : Formula → ℕ → List Bool → Type 0
 Marked f v m = (t : ℕ) → getD m t false ≡ true → Unbound f v t
 
-extend : (f : Formula) (v : ℕ) (e : Edge) → Unbound f v (e .from) → List·Memᴰ (e .step) (stepsOf f (e .from)) → binds v (e .step .clauses) ≡ false → Unbound f v (e .step .target)
-extend f v e u i b = record { path = u .path ++ (e .step ∷ []); leads = path-snoc f (u .path) 0 (e .from) (e .step) (u .leads) i; nowhere = All-append (λ (x : Step). binds v (x .clauses) ≡ false) (u .path) (e .step ∷ []) (u .nowhere) (b, tt) }
+extend : (f : Formula) (v : ℕ) (e : Edge) → Unbound f v (e .from) → List·Memᴰ (e .step) (stepsOf f (e .from)) → binds v (e .step .clauses) ≡ false
+    → Unbound f v (e .step .target)
+extend f v e u i b =
+    record {
+      path = u .path ++ (e .step ∷ []);
+      leads = path-snoc f (u .path) 0 (e .from) (e .step) (u .leads) i;
+      nowhere = All-append (λ (x : Step). binds v (x .clauses) ≡ false) (u .path) (e .step ∷ []) (u .nowhere) (b, tt);
+    }
 
 mark-sound : (f : Formula) (v : ℕ) (m : List Bool) (e : Edge) → List·Memᴰ (e .step) (stepsOf f (e .from)) → Marked f v m → Marked f v (mark v m e)
 unfolding mark Marked
-mark-sound f v m e i h = cond-holds (Marked f v) (getD m (e .from) false && not (binds v (e .step .clauses))) (set m (e .step .target) true) m (λ c t q. go c t q (eqb t (e .step .target)) refl) (λ c. h)
+mark-sound f v m e i h =
+    cond-holds (Marked f v) (getD m (e .from) false && not (binds v (e .step .clauses))) (set m (e .step .target) true) m
+    (λ c t q. go c t q (eqb t (e .step .target)) refl) (λ c. h)
   where
-    go : getD m (e .from) false && not (binds v (e .step .clauses)) ≡ true → (t : ℕ) → getD (set m (e .step .target) true) t false ≡ true → (b : Bool) → eqb t (e .step .target) ≡ b → Unbound f v t
-    go c t q true z = subst (Unbound f v) (sym (eqb-true t (e .step .target) z)) (extend f v e (h (e .from) (and-left (getD m (e .from) false) (not (binds v (e .step .clauses))) c)) i (not-true (binds v (e .step .clauses)) (and-right (getD m (e .from) false) (not (binds v (e .step .clauses))) c)))
+    go : getD m (e .from) false && not (binds v (e .step .clauses)) ≡ true → (t : ℕ) → getD (set m (e .step .target) true) t false ≡ true → (b : Bool)
+        → eqb t (e .step .target) ≡ b → Unbound f v t
+    go c t q true z =
+        subst (Unbound f v) (sym (eqb-true t (e .step .target) z))
+        (extend f v e (h (e .from) (and-left (getD m (e .from) false) (not (binds v (e .step .clauses))) c)) i
+        (not-true (binds v (e .step .clauses)) (and-right (getD m (e .from) false) (not (binds v (e .step .clauses))) c)))
     go c t q false z = h t (sym (getD-set-other m (e .step .target) t true false (eqb-false t (e .step .target) z)) ∙ q)
 
 abbrev Inside : Formula → Edge → Type 0
@@ -101,7 +121,9 @@ starts-sound f v (suc t) q = absurd (false≢true (sym (replicate-at 15 t false)
 -- a marked state is reached by a path that binds v nowhere
 pub unbound-path : (f : Formula) (v s : ℕ) → isUnbound f v s ≡ true → Unbound f v s
 unfolding isUnbound unbound Marked starts stepsOf
-unbound-path f v s q = rounds-sound f 16 v (edgesFrom 0 (f .states)) starts (edges-in (Inside f) (f .states) 0 (λ i x m. rw (native.Mathlib.Nat.zero-add i) m)) (starts-sound f v) s q
+unbound-path f v s q =
+    rounds-sound f 16 v (edgesFrom 0 (f .states)) starts (edges-in (Inside f) (f .states) 0 (λ i x m. rw (native.Mathlib.Nat.zero-add i) m))
+    (starts-sound f v) s q
 
 -- how many are marked
 count : List Bool → ℕ
@@ -134,11 +156,15 @@ set-same (false ∷ m) (suc t) h = ap (λ r. false ∷ r) (set-same m t h)
 
 mark-grows : (v : ℕ) (m : List Bool) (e : Edge) → count m ≤ count (mark v m e)
 unfolding mark
-mark-grows v m e = cond-holds (λ r. count m ≤ count r) (getD m (e .from) false && not (binds v (e .step .clauses))) (set m (e .step .target) true) m (λ c. set-grows m (e .step .target)) (λ c. omega arith)
+mark-grows v m e =
+    cond-holds (λ r. count m ≤ count r) (getD m (e .from) false && not (binds v (e .step .clauses))) (set m (e .step .target) true) m
+    (λ c. set-grows m (e .step .target)) (λ c. omega arith)
 
 mark-same : (v : ℕ) (m : List Bool) (e : Edge) → count (mark v m e) ≤ count m → mark v m e ≡ m
 unfolding mark
-mark-same v m e = cond-holds (λ r. count r ≤ count m → r ≡ m) (getD m (e .from) false && not (binds v (e .step .clauses))) (set m (e .step .target) true) m (λ c h. set-same m (e .step .target) h) (λ c h. refl)
+mark-same v m e =
+    cond-holds (λ r. count r ≤ count m → r ≡ m) (getD m (e .from) false && not (binds v (e .step .clauses))) (set m (e .step .target) true) m
+    (λ c h. set-same m (e .step .target) h) (λ c h. refl)
 
 round-grows : (v : ℕ) (es : List Edge) (m : List Bool) → count m ≤ count (round v es m)
 unfolding round
@@ -171,7 +197,9 @@ unfolding rounds
 rounds-rest zero v es m = inr (omega arith)
 rounds-rest (suc n) v es m = go (decLe (count (round v es m)) (count m)) (rounds-rest n v es (round v es m))
   where
-    go : Dec (count (round v es m) ≤ count m) → Stable v es (rounds n v es (round v es m)) ⊎ (n + count (round v es m) ≤ count (rounds n v es (round v es m))) → Stable v es (rounds n v es (round v es m)) ⊎ (suc n + count m ≤ count (rounds n v es (round v es m)))
+    go : Dec (count (round v es m) ≤ count m)
+        → Stable v es (rounds n v es (round v es m)) ⊎ (n + count (round v es m) ≤ count (rounds n v es (round v es m)))
+        → Stable v es (rounds n v es (round v es m)) ⊎ (suc n + count m ≤ count (rounds n v es (round v es m)))
     go (yes h) i =
         let s = round-same v es m h in
         inl (subst (Stable v es) (sym (ap (rounds n v es) (round-stable v es m s) ∙ rounds-stable n v es m s)) s)
@@ -180,7 +208,9 @@ rounds-rest (suc n) v es m = go (decLe (count (round v es m)) (count m)) (rounds
 
 mark-length : (v : ℕ) (m : List Bool) (e : Edge) → length (mark v m e) ≡ length m
 unfolding mark
-mark-length v m e = cond-holds (λ r. length r ≡ length m) (getD m (e .from) false && not (binds v (e .step .clauses))) (set m (e .step .target) true) m (λ c. length-set m (e .step .target) true) (λ c. refl)
+mark-length v m e =
+    cond-holds (λ r. length r ≡ length m) (getD m (e .from) false && not (binds v (e .step .clauses))) (set m (e .step .target) true) m
+    (λ c. length-set m (e .step .target) true) (λ c. refl)
 
 round-length : (v : ℕ) (es : List Edge) (m : List Bool) → length (round v es m) ≡ length m
 unfolding round
@@ -203,7 +233,8 @@ rounds-keeps zero v es m t h = h
 rounds-keeps (suc n) v es m t h = rounds-keeps n v es (round v es m) t (round-keeps v es m t h)
 
 -- in marks at rest, a step from a marked state that does not bind v leads to a marked state
-rest-closed : (v : ℕ) (m : List Bool) (e : Edge) → mark v m e ≡ m → getD m (e .from) false ≡ true → binds v (e .step .clauses) ≡ false → e .step .target < length m → getD m (e .step .target) false ≡ true
+rest-closed : (v : ℕ) (m : List Bool) (e : Edge) → mark v m e ≡ m → getD m (e .from) false ≡ true → binds v (e .step .clauses) ≡ false
+    → e .step .target < length m → getD m (e .step .target) false ≡ true
 unfolding mark
 rest-closed v m e q h b k =
     let z : set m (e .step .target) true ≡ m = rw (h, b) at q in
@@ -215,14 +246,18 @@ unfolding stepsOf
 no-steps f s h = ap (λ (x : State). x .steps) (List·getD-eq-default (f .states) noState h)
 
 module _ (f : Formula) (v : ℕ) (m : List Bool) (few : length (f .states) ≤ 16) (wide : length m ≡ 16) (still : Stable v (edgesFrom 0 (f .states)) m) where
-  path-marked : (p : List Step) (s t : ℕ) → getD m s false ≡ true → IsPath f s p t → All (λ (x : Step). binds v (x .clauses) ≡ false) p → t < 16 → getD m t false ≡ true
+  path-marked : (p : List Step) (s t : ℕ) → getD m s false ≡ true → IsPath f s p t → All (λ (x : Step). binds v (x .clauses) ≡ false) p → t < 16
+      → getD m t false ≡ true
   path-marked [] s t h i b k = subst (λ j. getD m j false ≡ true) i h
   path-marked (x ∷ p) s t h i b k = go p (decLt (x .target) 16) (i .1) (b .1) (λ g. path-marked p (x .target) t g (i .1) (b .1) k)
     where
       at-rest : mark v m (edge s x) ≡ m
-      at-rest = subst (λ j. mark v m (edge j x) ≡ m) (native.Mathlib.Nat.zero-add s) (edges-out (λ e. mark v m e ≡ m) (f .states) 0 still s x (unfold stepsOf in i .0))
+      at-rest =
+          subst (λ j. mark v m (edge j x) ≡ m) (native.Mathlib.Nat.zero-add s)
+          (edges-out (λ e. mark v m e ≡ m) (f .states) 0 still s x (unfold stepsOf in i .0))
 
-      go : (q : List Step) → Dec (x .target < 16) → IsPath f (x .target) q t → All (λ (y : Step). binds v (y .clauses) ≡ false) q → (getD m (x .target) false ≡ true → getD m t false ≡ true) → getD m t false ≡ true
+      go : (q : List Step) → Dec (x .target < 16) → IsPath f (x .target) q t → All (λ (y : Step). binds v (y .clauses) ≡ false) q
+          → (getD m (x .target) false ≡ true → getD m t false ≡ true) → getD m t false ≡ true
       go q (yes l) j c r = r (rest-closed v m (edge s x) at-rest h (b .0) (rw wide l))
       go [] (no l) j c r = absurd (l (subst (λ z. z < 16) (sym j) k))
       go (y ∷ q) (no l) j c r = absurd (List·Memᴰ·not-nil (subst (λ z. List·Memᴰ y z) (no-steps f (x .target) (omega arith)) (j .0)))

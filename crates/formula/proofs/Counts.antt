@@ -10,8 +10,9 @@ use Rattle.base.specs.Lists.{All}
 use Rattle.formula.specs.Formula.{Expr, Clause, Step, State, Formula}
 use Rattle.formula.specs.Encode.{Command, TIED, STATE, STEP, CLAUSE, GUARD, guardCommands, stepCommands, stateCommands, commands}
 use Rattle.formula.specs.Correct.{isFinal, GuardFits, StepFits, StateFits}
-use Rattle.formula.specs.Read.{Summary, start, advance}
-use Rattle.formula.proofs.Gather.{Follows}
+use Rattle.formula.specs.declared.Summary.{Summary}
+use Rattle.formula.specs.Read.{start, advance}
+use Rattle.formula.proofs.Assembling.{Follows}
 
 -- the counts of a formula, apart from what exists
 pub record Counts (f : Formula) : Type 0 where
@@ -28,24 +29,42 @@ pub record Same (s t : Summary) : Type 0 where
 same : (s : Summary) → Same s s
 same s = record { states = refl; last = refl; steps = refl }
 
-fit-clauses : (xs : List Clause) (s : Summary) (cs : List Command) → 0 < s .steps → s .guarded ≡ false → s .clauses + length xs ≤ 8 → ((t : Summary) → Same s t → t .guarded ≡ false → Follows t cs) → Follows s (map CLAUSE xs ++ cs)
+fit-clauses : (xs : List Clause) (s : Summary) (cs : List Command) → 0 < s .steps → s .guarded ≡ false → s .clauses + length xs ≤ 8
+    → ((t : Summary) → Same s t → t .guarded ≡ false → Follows t cs) → Follows s (map CLAUSE xs ++ cs)
 fit-clauses [] s cs h g k c = c s (same s) g
-fit-clauses (x ∷ xs) s cs h g k c = ((h, g, omega arith), fit-clauses xs (advance s (CLAUSE x)) cs h g (omega arith) (λ t e q. c t (record { states = e .states; last = e .last; steps = e .steps }) q))
+fit-clauses (x ∷ xs) s cs h g k c = (
+  (h, g, omega arith),
+  fit-clauses xs (advance s (CLAUSE x)) cs h g (omega arith) (λ t e q. c t (record { states = e .states; last = e .last; steps = e .steps }) q),
+)
 
-fit-guard : (o : Option Expr) (s : Summary) (cs : List Command) → 0 < s .steps → s .guarded ≡ false → GuardFits o → ((t : Summary) → Same s t → Follows t cs) → Follows s (guardCommands o ++ cs)
+fit-guard : (o : Option Expr) (s : Summary) (cs : List Command) → 0 < s .steps → s .guarded ≡ false → GuardFits o
+    → ((t : Summary) → Same s t → Follows t cs) → Follows s (guardCommands o ++ cs)
 unfolding guardCommands
 fit-guard none s cs h g k c = c s (same s)
 fit-guard (some e) s cs h g k c = ((h, g, k .0, k .1), c (advance s (GUARD e)) (record { states = refl; last = refl; steps = refl }))
 
-fit-steps : (xs : List Step) (s : Summary) (cs : List Command) → 0 < s .states → s .last ≡ false → s .steps + length xs ≤ 8 → All StepFits xs → ((t : Summary) → t .states ≡ s .states → Follows t cs) → Follows s (flatMap stepCommands xs ++ cs)
+fit-steps : (xs : List Step) (s : Summary) (cs : List Command) → 0 < s .states → s .last ≡ false → s .steps + length xs ≤ 8 → All StepFits xs
+    → ((t : Summary) → t .states ≡ s .states → Follows t cs) → Follows s (flatMap stepCommands xs ++ cs)
 unfolding flatMap stepCommands
 fit-steps [] s cs h l k a c = c s refl
 fit-steps (x ∷ xs) s cs h l k a c =
     let rest = flatMap stepCommands xs ++ cs in
     let s₁ = advance s (STEP (x .target)) in
-    rw (append-assoc (map CLAUSE (x .clauses) ++ guardCommands (x .guard)) (flatMap stepCommands xs) cs, append-assoc (map CLAUSE (x .clauses)) (guardCommands (x .guard)) rest) ((h, l, omega arith), fit-clauses (x .clauses) s₁ (guardCommands (x .guard) ++ rest) (omega arith) refl (let b = a .0 .clauses in omega arith) (λ t e q. fit-guard (x .guard) t rest (let b = e .steps in omega arith) q (a .0 .guard) (λ u i. fit-steps xs u cs (let b = i .states in let d = e .states in omega arith) (i .last ∙ (e .last ∙ l)) (let b = i .steps in let d = e .steps in omega arith) (a .1) (λ w z. c w (z ∙ (i .states ∙ e .states))))))
+    rw (
+      append-assoc (map CLAUSE (x .clauses) ++ guardCommands (x .guard)) (flatMap stepCommands xs) cs,
+      append-assoc (map CLAUSE (x .clauses)) (guardCommands (x .guard)) rest,
+    ) (
+      (h, l, omega arith),
+      fit-clauses (x .clauses) s₁ (guardCommands (x .guard) ++ rest) (omega arith) refl (let b = a .0 .clauses in omega arith)
+          (λ t e q.
+          fit-guard (x .guard) t rest (let b = e .steps in omega arith) q (a .0 .guard)
+          (λ u i.
+          fit-steps xs u cs (let b = i .states in let d = e .states in omega arith) (i .last ∙ (e .last ∙ l))
+          (let b = i .steps in let d = e .steps in omega arith) (a .1) (λ w z. c w (z ∙ (i .states ∙ e .states))))),
+    )
 
-fit-state : (x : State) (s : Summary) (cs : List Command) → StateFits x → ((t : Summary) → t .states ≡ suc (s .states) → Follows t cs) → (b : Bool) → isFinal (x .kind) ≡ b → Follows (advance s (STATE (x .kind))) (flatMap stepCommands (x .steps) ++ cs)
+fit-state : (x : State) (s : Summary) (cs : List Command) → StateFits x → ((t : Summary) → t .states ≡ suc (s .states) → Follows t cs) → (b : Bool)
+    → isFinal (x .kind) ≡ b → Follows (advance s (STATE (x .kind))) (flatMap stepCommands (x .steps) ++ cs)
 unfolding flatMap
 fit-state x s cs a c true e = rw (a .last e) (c (advance s (STATE (x .kind))) refl)
 fit-state x s cs a c false e = fit-steps (x .steps) (advance s (STATE (x .kind))) cs (omega arith) e (let b = a .steps in omega arith) (a .each) c
@@ -53,9 +72,11 @@ fit-state x s cs a c false e = fit-steps (x .steps) (advance s (STATE (x .kind))
 fit-states : (xs : List State) (s : Summary) → s .states + length xs ≤ 16 → All StateFits xs → Follows s (flatMap stateCommands xs)
 unfolding flatMap stateCommands
 fit-states [] s k a = tt
-fit-states (x ∷ xs) s k a = (omega arith, fit-state x s (flatMap stateCommands xs) (a .0) (λ t e. fit-states xs t (omega arith) (a .1)) (isFinal (x .kind)) refl)
+fit-states (x ∷ xs) s k a =
+    (omega arith, fit-state x s (flatMap stateCommands xs) (a .0) (λ t e. fit-states xs t (omega arith) (a .1)) (isFinal (x .kind)) refl)
 
-fit-tied : (vs : List ℕ) (s : Summary) (cs : List Command) → s .states ≡ 0 → s .tied + length vs ≤ 8 → ((t : Summary) → t .states ≡ 0 → Follows t cs) → Follows s (map TIED vs ++ cs)
+fit-tied : (vs : List ℕ) (s : Summary) (cs : List Command) → s .states ≡ 0 → s .tied + length vs ≤ 8 → ((t : Summary) → t .states ≡ 0 → Follows t cs)
+    → Follows s (map TIED vs ++ cs)
 fit-tied [] s cs h k c = c s h
 fit-tied (v ∷ vs) s cs h k c = ((h, omega arith), fit-tied vs (advance s (TIED v)) cs h (omega arith) c)
 
@@ -100,12 +121,18 @@ count-clauses (x ∷ xs) s cs k h =
     let l = h .0 .2 in
     let i = count-clauses xs (advance s (CLAUSE x)) cs (omega arith) (h .1) in
     let m = i .most in
-    record { most = omega arith; after = i .after; same = record { states = i .same .states; last = i .same .last; steps = i .same .steps }; follows = i .follows }
+    record {
+      most = omega arith;
+      after = i .after;
+      same = record { states = i .same .states; last = i .same .last; steps = i .same .steps };
+      follows = i .follows;
+    }
 
 count-guard : (o : Option Expr) (s : Summary) (cs : List Command) → Follows s (guardCommands o ++ cs) → AfterGuard s o cs
 unfolding guardCommands
 count-guard none s cs h = record { fits = tt; after = s; same = same s; follows = h }
-count-guard (some e) s cs h = record { fits = (h .0 .2, h .0 .3); after = advance s (GUARD e); same = record { states = refl; last = refl; steps = refl }; follows = h .1 }
+count-guard (some e) s cs h =
+    record { fits = (h .0 .2, h .0 .3); after = advance s (GUARD e); same = record { states = refl; last = refl; steps = refl }; follows = h .1 }
 
 count-steps : (xs : List Step) (s : Summary) (cs : List Command) → s .steps ≤ 8 → Follows s (flatMap stepCommands xs ++ cs) → AfterSteps s xs cs
 unfolding flatMap stepCommands
@@ -113,7 +140,12 @@ count-steps [] s cs k h = record { most = omega arith; each = tt; last = λ e. r
 count-steps (x ∷ xs) s cs k h =
     let rest = flatMap stepCommands xs ++ cs in
     let l = h .0 .2 in
-    let g : Follows (advance s (STEP (x .target))) (map CLAUSE (x .clauses) ++ (guardCommands (x .guard) ++ rest)) = rw (append-assoc (map CLAUSE (x .clauses) ++ guardCommands (x .guard)) (flatMap stepCommands xs) cs, append-assoc (map CLAUSE (x .clauses)) (guardCommands (x .guard)) rest) at (h .1) in
+    let g : Follows (advance s (STEP (x .target))) (map CLAUSE (x .clauses) ++ (guardCommands (x .guard) ++ rest)) =
+    rw (
+      append-assoc (map CLAUSE (x .clauses) ++ guardCommands (x .guard)) (flatMap stepCommands xs) cs,
+      append-assoc (map CLAUSE (x .clauses)) (guardCommands (x .guard)) rest,
+    )
+    at (h .1) in
     let a = count-clauses (x .clauses) (advance s (STEP (x .target))) (guardCommands (x .guard) ++ rest) (omega arith) g in
     let b = count-guard (x .guard) (a .after) rest (a .follows) in
     let a₁ = a .same .steps in
@@ -124,7 +156,14 @@ count-steps (x ∷ xs) s cs k h =
     let a₃ = a .same .states in
     let b₃ = b .same .states in
     let c₃ = c .states in
-    record { most = omega arith; each = (record { clauses = omega arith; guard = b .fits }, c .each); last = λ e. absurd (true≢false (sym e ∙ h .0 .1)); after = c .after; states = omega arith; follows = c .follows }
+    record {
+      most = omega arith;
+      each = (record { clauses = omega arith; guard = b .fits }, c .each);
+      last = λ e. absurd (true≢false (sym e ∙ h .0 .1));
+      after = c .after;
+      states = omega arith;
+      follows = c .follows;
+    }
 
 count-states : (xs : List State) (s : Summary) → s .states ≤ 16 → Follows s (flatMap stateCommands xs) → (s .states + length xs ≤ 16) × All StateFits xs
 unfolding flatMap stateCommands

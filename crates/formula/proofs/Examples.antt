@@ -1,4 +1,4 @@
--- Worked examples of reading a formula against the bench log's fields: the paper's M9 and M10, and the border of each rule.
+-- Worked examples of reading a formula against the bench log's fields: the border of each rule.
 use Prim.Native.Nat.{ℕ}
 use mathlib.Core.Path.{_≡_, refl}
 use mathlib.Core.List.{List, [], _∷_, flatMap}
@@ -7,7 +7,8 @@ use Rattle.refusal.specs.declared.Report.{Report}
 use Rattle.refusal.specs.Refusals.{reportOf, line}
 use Rattle.formula.specs.Encode.{encode, encodeExpr, encodeClause, encodeCommand, commands, stateCommands, stepCommands, guardCommands}
 use Rattle.formula.specs.Unbound.{binds, stepsOf, edgesFrom, mark, round, rounds, unbound, isUnbound}
-use Rattle.formula.specs.Read.{Reading, accepted, refused, start, opcode, operatorOf, kindOf, exprOpcode, over, exprWith, readExpr, next, gatherAll, assemble, firstLeaf, firstAbsent, firstUnbound, judge, afterEnd, readFrom, readFormula}
+use Rattle.formula.specs.Read.{Reading, accepted, refused, start, opcode, operatorOf, kindOf, exprOpcode, over, exprWith, readExpr, next}
+use Rattle.formula.specs.Read.{assembly, assemble, firstLeaf, firstAbsent, firstUnbound, judge, afterEnd, readFrom, readFormula}
 
 -- what a reading answers: file, number and place, or 0 0 0 for accepted
 abbrev pub answer : Reading → Report
@@ -19,18 +20,10 @@ abbrev bench : ℕ
 bench = 2
 
 pub read : List ℕ → Report
-unfolding readFormula readFrom afterEnd judge firstUnbound firstAbsent firstLeaf assemble gatherAll next readExpr exprWith over exprOpcode kindOf operatorOf opcode start isUnbound unbound rounds round mark edgesFrom stepsOf binds commands stateCommands stepCommands guardCommands encodeCommand encodeClause encodeExpr encode bytesOf valueAt flatMap
+unfolding readFormula readFrom afterEnd judge firstUnbound firstAbsent firstLeaf assemble assembly next readExpr exprWith over exprOpcode kindOf operatorOf
+    opcode start isUnbound unbound rounds round mark edgesFrom stepsOf binds commands stateCommands stepCommands guardCommands encodeCommand encodeClause
+    encodeExpr encode bytesOf valueAt flatMap
 read l = answer (readFormula bench l)
-
--- M9 "G without its BIND: (2,8,15)"
-pub M9 : read (0x10 ∷ 0 ∷ 0x11 ∷ 1 ∷ 0x12 ∷ 1 ∷ 0 ∷ 0 ∷ 0 ∷ 0 ∷ 2 ∷ 0x10 ∷ 0 ∷ 0x11 ∷ 2 ∷ 0x13 ∷ 0 ∷ 0 ∷ 0 ∷ 0x12 ∷ 1 ∷ 0 ∷ 0 ∷ 0 ∷ 0 ∷ 1 ∷ 0x10 ∷ 2 ∷ 0 ∷ []) ≡ line 2 8 15
-unfolding read
-M9 = refl
-
--- M10 "F with first target 5: (2,3,2)"
-pub M10 : read (0x10 ∷ 0 ∷ 0x11 ∷ 5 ∷ 0x12 ∷ 1 ∷ 0 ∷ 0 ∷ 0 ∷ 0 ∷ 1 ∷ 0x14 ∷ 0 ∷ 0 ∷ 0x10 ∷ 0 ∷ 0x11 ∷ 2 ∷ 0x12 ∷ 1 ∷ 0 ∷ 0 ∷ 0 ∷ 0 ∷ 2 ∷ 0x10 ∷ 2 ∷ 0 ∷ []) ≡ line 2 3 2
-unfolding read
-M10 = refl
 
 -- depth 8 is accepted
 deep-8 : read (0x10 ∷ 0 ∷ 0x11 ∷ 1 ∷ 0x15 ∷ 0x28 ∷ 0x28 ∷ 0x28 ∷ 0x28 ∷ 0x28 ∷ 0x28 ∷ 0x28 ∷ 0x20 ∷ 0 ∷ 0 ∷ 0 ∷ 1 ∷ 0x10 ∷ 2 ∷ 0 ∷ []) ≡ line 0 0 0
@@ -53,12 +46,20 @@ unfolding read
 deep-cut = refl
 
 -- 31 commands are accepted
-many-31 : read (0x10 ∷ 0 ∷ 0x11 ∷ 1 ∷ 0x15 ∷ 0x23 ∷ 0x23 ∷ 0x23 ∷ 0x23 ∷ 0x22 ∷ 0 ∷ 0x22 ∷ 0 ∷ 0x23 ∷ 0x22 ∷ 0 ∷ 0x22 ∷ 0 ∷ 0x23 ∷ 0x23 ∷ 0x22 ∷ 0 ∷ 0x22 ∷ 0 ∷ 0x23 ∷ 0x22 ∷ 0 ∷ 0x22 ∷ 0 ∷ 0x23 ∷ 0x23 ∷ 0x23 ∷ 0x22 ∷ 0 ∷ 0x22 ∷ 0 ∷ 0x23 ∷ 0x22 ∷ 0 ∷ 0x22 ∷ 0 ∷ 0x23 ∷ 0x23 ∷ 0x22 ∷ 0 ∷ 0x22 ∷ 0 ∷ 0x23 ∷ 0x22 ∷ 0 ∷ 0x22 ∷ 0 ∷ 0x10 ∷ 2 ∷ 0 ∷ []) ≡ line 0 0 0
+many-31 : read
+    (0x10 ∷ 0 ∷ 0x11 ∷ 1 ∷ 0x15 ∷ 0x23 ∷ 0x23 ∷ 0x23 ∷ 0x23 ∷ 0x22 ∷ 0 ∷ 0x22 ∷ 0 ∷ 0x23 ∷ 0x22 ∷ 0 ∷ 0x22 ∷ 0 ∷ 0x23 ∷ 0x23 ∷ 0x22 ∷ 0 ∷ 0x22 ∷ 0 ∷ 0x23 ∷ 0x22
+    ∷ 0 ∷ 0x22 ∷ 0 ∷ 0x23 ∷ 0x23 ∷ 0x23 ∷ 0x22 ∷ 0 ∷ 0x22 ∷ 0 ∷ 0x23 ∷ 0x22 ∷ 0 ∷ 0x22 ∷ 0 ∷ 0x23 ∷ 0x23 ∷ 0x22 ∷ 0 ∷ 0x22 ∷ 0 ∷ 0x23 ∷ 0x22 ∷ 0 ∷ 0x22 ∷ 0
+    ∷ 0x10 ∷ 2 ∷ 0 ∷ [])
+    ≡ line 0 0 0
 unfolding read
 many-31 = refl
 
 -- the 32nd command is surplus
-many-32 : read (0x10 ∷ 0 ∷ 0x11 ∷ 1 ∷ 0x15 ∷ 0x28 ∷ 0x23 ∷ 0x23 ∷ 0x23 ∷ 0x23 ∷ 0x22 ∷ 0 ∷ 0x22 ∷ 0 ∷ 0x23 ∷ 0x22 ∷ 0 ∷ 0x22 ∷ 0 ∷ 0x23 ∷ 0x23 ∷ 0x22 ∷ 0 ∷ 0x22 ∷ 0 ∷ 0x23 ∷ 0x22 ∷ 0 ∷ 0x22 ∷ 0 ∷ 0x23 ∷ 0x23 ∷ 0x23 ∷ 0x22 ∷ 0 ∷ 0x22 ∷ 0 ∷ 0x23 ∷ 0x22 ∷ 0 ∷ 0x22 ∷ 0 ∷ 0x23 ∷ 0x23 ∷ 0x22 ∷ 0 ∷ 0x22 ∷ 0 ∷ 0x23 ∷ 0x22 ∷ 0 ∷ 0x22 ∷ 0 ∷ 0x10 ∷ 2 ∷ 0 ∷ []) ≡ line 2 4 51
+many-32 : read
+    (0x10 ∷ 0 ∷ 0x11 ∷ 1 ∷ 0x15 ∷ 0x28 ∷ 0x23 ∷ 0x23 ∷ 0x23 ∷ 0x23 ∷ 0x22 ∷ 0 ∷ 0x22 ∷ 0 ∷ 0x23 ∷ 0x22 ∷ 0 ∷ 0x22 ∷ 0 ∷ 0x23 ∷ 0x23 ∷ 0x22 ∷ 0 ∷ 0x22 ∷ 0 ∷ 0x23
+    ∷ 0x22 ∷ 0 ∷ 0x22 ∷ 0 ∷ 0x23 ∷ 0x23 ∷ 0x23 ∷ 0x22 ∷ 0 ∷ 0x22 ∷ 0 ∷ 0x23 ∷ 0x22 ∷ 0 ∷ 0x22 ∷ 0 ∷ 0x23 ∷ 0x23 ∷ 0x22 ∷ 0 ∷ 0x22 ∷ 0 ∷ 0x23 ∷ 0x22 ∷ 0
+    ∷ 0x22 ∷ 0 ∷ 0x10 ∷ 2 ∷ 0 ∷ [])
+    ≡ line 2 4 51
 unfolding read
 many-32 = refl
 
@@ -113,7 +114,10 @@ unfolding read
 guard-twice = refl
 
 -- a clause behind a GUARD is foreign, even as the ninth
-clause-behind : read (0x10 ∷ 0 ∷ 0x11 ∷ 1 ∷ 0x14 ∷ 0 ∷ 0 ∷ 0x14 ∷ 0 ∷ 0 ∷ 0x14 ∷ 0 ∷ 0 ∷ 0x14 ∷ 0 ∷ 0 ∷ 0x14 ∷ 0 ∷ 0 ∷ 0x14 ∷ 0 ∷ 0 ∷ 0x14 ∷ 0 ∷ 0 ∷ 0x14 ∷ 0 ∷ 0 ∷ 0x15 ∷ 0x20 ∷ 0 ∷ 0 ∷ 0 ∷ 1 ∷ 0x14 ∷ 0 ∷ 0 ∷ 0x10 ∷ 2 ∷ 0 ∷ []) ≡ line 2 2 34
+clause-behind : read
+    (0x10 ∷ 0 ∷ 0x11 ∷ 1 ∷ 0x14 ∷ 0 ∷ 0 ∷ 0x14 ∷ 0 ∷ 0 ∷ 0x14 ∷ 0 ∷ 0 ∷ 0x14 ∷ 0 ∷ 0 ∷ 0x14 ∷ 0 ∷ 0 ∷ 0x14 ∷ 0 ∷ 0 ∷ 0x14 ∷ 0 ∷ 0 ∷ 0x14 ∷ 0 ∷ 0 ∷ 0x15 ∷ 0x20
+    ∷ 0 ∷ 0 ∷ 0 ∷ 1 ∷ 0x14 ∷ 0 ∷ 0 ∷ 0x10 ∷ 2 ∷ 0 ∷ [])
+    ≡ line 2 2 34
 unfolding read
 clause-behind = refl
 

@@ -3,7 +3,7 @@ pub mod Order
 pub mod Basics
 pub mod Exprs
 pub mod Commands
-pub mod Gather
+pub mod Assembling
 pub mod Closure
 pub mod Counts
 pub mod AfterEnd

@@ -1,4 +1,5 @@
--- "The first bad command decides; within one the order is 2, 4, 1, 3. After END: 5; then 3 for the first STEP or COUNT naming an absent state; then 7; then 8": each refusal, whatever else is wrong that comes later in this order.
+-- "The first bad command decides; within one the order is 2, 4, 1, 3. After END: 5; then 3 for the first STEP or COUNT naming an absent state; then
+-- 7; then 8": each refusal, whatever else is wrong that comes later in this order.
 use Prim.Native.Nat.{ℕ, zero, suc, _+_, _<_, _≤_}
 use mathlib.Core.Path.{_≡_, refl, sym, subst}
 use mathlib.Core.Logic.{_⊎_, inl, inr}
@@ -15,7 +16,10 @@ use Rattle.formula.specs.Formula.{Formula}
 use Rattle.formula.specs.Encode.{Command, commands}
 use Rattle.formula.specs.Unbound.{isUnbound}
 use Rattle.formula.specs.Correct.{deadStart}
-use Rattle.formula.specs.Read.{accepted, refused, Summary, opcode, allowed, room, failed, ExprOpcode, const-op, var-op, count-op, unary, binary, ternary, foreign-op, exprOpcode, overOf, over, exprWith, readExpr, Next, command, bad, operands, operandsOf, next, firstAbsent, firstUnbound, judge, afterEnd}
+use Rattle.formula.specs.declared.Summary.{Summary}
+use Rattle.formula.specs.Read.{accepted, refused, opcode, allowed, room, failed, ExprOpcode, const-op, var-op, count-op, unary, binary, ternary}
+use Rattle.formula.specs.Read.{foreign-op, exprOpcode, overOf, over, exprWith, readExpr, Next, command, bad, operands, operandsOf, next}
+use Rattle.formula.specs.Read.{firstAbsent, firstUnbound, judge, afterEnd}
 
 -- the command of byte b, with the bytes `ops` behind it
 module _ (fields : ℕ) (s : Summary) (at b : ℕ) (ops : List ℕ) where
@@ -35,7 +39,8 @@ module _ (fields : ℕ) (s : Summary) (at b : ℕ) (ops : List ℕ) where
   then-operands a r = rw (a, r)
 
   -- the three together: what holds of each answer holds of the next command
-  pub by-order : (P : Next → Type 0) → P (bad (Foreign InFormula at)) → P (bad (Surplus InFormula at)) → (allowed s (opcode b) ≡ true → room s (opcode b) ≡ true → P (operandsOf fields at ops (opcode b))) → P (next fields s at (b ∷ ops))
+  pub by-order : (P : Next → Type 0) → P (bad (Foreign InFormula at)) → P (bad (Surplus InFormula at))
+      → (allowed s (opcode b) ≡ true → room s (opcode b) ≡ true → P (operandsOf fields at ops (opcode b))) → P (next fields s at (b ∷ ops))
   by-order P f g h = go (allowed s (opcode b)) (room s (opcode b)) refl refl
     where
       go : (a r : Bool) → allowed s (opcode b) ≡ a → room s (opcode b) ≡ r → P (next fields s at (b ∷ ops))
@@ -58,7 +63,8 @@ module _ (at : ℕ) (ops : List ℕ) (width : ℕ) (exist : Bool) (c : Command) 
   then-taken h e = rw (le-ltb (length ops) width h, e)
 
   -- the three together, as above
-  pub by-operands : (P : Next → Type 0) → P (bad (CutShort InFormula at)) → P (bad (Value InFormula at)) → (width ≤ length ops → exist ≡ true → P (command c (1 + width))) → P (operands at ops width exist c)
+  pub by-operands : (P : Next → Type 0) → P (bad (CutShort InFormula at)) → P (bad (Value InFormula at))
+      → (width ≤ length ops → exist ≡ true → P (command c (1 + width))) → P (operands at ops width exist c)
   by-operands P f g h = go (ltb (length ops) width) exist refl refl
     where
       go : (k e : Bool) → ltb (length ops) width ≡ k → exist ≡ e → P (operands at ops width exist c)
@@ -85,7 +91,8 @@ over-surplus at (binary mk) n = refl
 over-surplus at (ternary mk) n = refl
 over-surplus at foreign-op n = absurd (n refl)
 
-pub expr-then-surplus : (d left at b : ℕ) (ops : List ℕ) → ¬ (exprOpcode b ≡ foreign-op) → (d ≡ 0) ⊎ (left ≡ 0) → readExpr d left at (b ∷ ops) ≡ failed (Surplus InFormula at)
+pub expr-then-surplus : (d left at b : ℕ) (ops : List ℕ) → ¬ (exprOpcode b ≡ foreign-op) → (d ≡ 0) ⊎ (left ≡ 0)
+    → readExpr d left at (b ∷ ops) ≡ failed (Surplus InFormula at)
 unfolding readExpr exprWith over
 expr-then-surplus zero left at b ops n h = over-surplus at (exprOpcode b) n
 expr-then-surplus (suc d) zero at b ops n h = over-surplus at (exprOpcode b) n
@@ -110,11 +117,13 @@ module _ (f : Formula) (at : ℕ) where
   then-dead-start a d = rw (a, d)
 
   -- 8: "a TESTV or VAR as above, the first in the file"
-  pub then-unbound : (p : ℕ) → firstAbsent (length (f .states)) 0 (commands f) ≡ none → deadStart (f .states) ≡ false → firstUnbound (isUnbound f) 0 [] 0 (commands f) ≡ some p → afterEnd f at [] ≡ refused (UnboundAt p)
+  pub then-unbound : (p : ℕ) → firstAbsent (length (f .states)) 0 (commands f) ≡ none → deadStart (f .states) ≡ false
+      → firstUnbound (isUnbound f) 0 [] 0 (commands f) ≡ some p → afterEnd f at [] ≡ refused (UnboundAt p)
   unfolding afterEnd judge
   then-unbound p a d u = rw (a, d, u)
 
   -- nothing is wrong: the formula is accepted
-  pub then-accepted : firstAbsent (length (f .states)) 0 (commands f) ≡ none → deadStart (f .states) ≡ false → firstUnbound (isUnbound f) 0 [] 0 (commands f) ≡ none → afterEnd f at [] ≡ accepted f
+  pub then-accepted : firstAbsent (length (f .states)) 0 (commands f) ≡ none → deadStart (f .states) ≡ false
+      → firstUnbound (isUnbound f) 0 [] 0 (commands f) ≡ none → afterEnd f at [] ≡ accepted f
   unfolding afterEnd judge
   then-accepted a d u = rw (a, d, u)

@@ -10,7 +10,8 @@ use lib.ListN.{length, getD, take, drop, getElem?, length-append}
 use lib.Seq.{drop-drop, split-at, drop-append-seam, drop-append-add}
 use Rattle.base.proofs.Lists.{flatMap-append}
 use Rattle.formula.specs.Formula.{Expr, Clause, Step, State, Formula}
-use Rattle.formula.specs.Encode.{Command, TIED, STATE, CLAUSE, guardCommands, stepCommands, stateCommands, commands, encodeExpr, encodeClause, encodeCommand, encode}
+use Rattle.formula.specs.Encode.{Command, TIED, STATE, CLAUSE, guardCommands, stepCommands, stateCommands, commands, encodeExpr, encodeClause}
+use Rattle.formula.specs.Encode.{encodeCommand, encode}
 use Rattle.formula.specs.Unbound.{stepsOf}
 use Rattle.formula.specs.Lookup.{stepAt, kindAt, commandsBefore, stepPlace, encodeGuard, encodeStep, guardPlace, placeIf, tableFrom, stepTable}
 use Rattle.formula.proofs.Closure.{noState, no-steps}
@@ -39,7 +40,9 @@ flat-guard (some e) = append-nil (0x15 ∷ encodeExpr e)
 -- the bytes of a step are those of its commands
 pub step-bytes : (t : Step) → flatMap encodeCommand (stepCommands t) ≡ encodeStep t
 unfolding flatMap stepCommands encodeCommand encodeStep
-step-bytes t = ap (λ r. 0x11 ∷ t .target ∷ r) (flatMap-append encodeCommand (map CLAUSE (t .clauses)) (guardCommands (t .guard)) ∙ (rw (flat-clauses (t .clauses), flat-guard (t .guard))))
+step-bytes t =
+    ap (λ r. 0x11 ∷ t .target ∷ r)
+    (flatMap-append encodeCommand (map CLAUSE (t .clauses)) (guardCommands (t .guard)) ∙ (rw (flat-clauses (t .clauses), flat-guard (t .guard))))
 
 -- the commands behind a step: the later steps of its state, then the later states
 pub commandsBehind : Formula → ℕ → ℕ → List Command
@@ -68,10 +71,18 @@ commands-split f s k t e =
     let xs = f .states in
     let x = getD xs s noState in
     let a : xs ≡ take s xs ++ (x ∷ drop (suc s) xs) = split-at xs s noState (state-there f s k t e) in
-    let b : flatMap stateCommands xs ≡ flatMap stateCommands (take s xs) ++ (stateCommands x ++ flatMap stateCommands (drop (suc s) xs)) = ap (flatMap stateCommands) a ∙ flatMap-append stateCommands (take s xs) (x ∷ drop (suc s) xs) in
-    let c : flatMap stepCommands (stepsOf f s) ≡ flatMap stepCommands (take k (stepsOf f s)) ++ (stepCommands t ++ flatMap stepCommands (drop (suc k) (stepsOf f s))) = ap (flatMap stepCommands) (split-here (stepsOf f s) k t e) ∙ flatMap-append stepCommands (take k (stepsOf f s)) (t ∷ drop (suc k) (stepsOf f s)) in
-    let d : stateCommands x ≡ STATE (x .kind) ∷ (flatMap stepCommands (take k (stepsOf f s)) ++ (stepCommands t ++ flatMap stepCommands (drop (suc k) (stepsOf f s)))) = ap (λ r. STATE (x .kind) ∷ r) c in
-    ap (λ r. map TIED (f .tied) ++ r) (b ∙ ap (λ r. flatMap stateCommands (take s xs) ++ (r ++ flatMap stateCommands (drop (suc s) xs))) d) ∙ glue (map TIED (f .tied)) (flatMap stateCommands (take s xs)) (flatMap stepCommands (take k (stepsOf f s))) (stepCommands t) (flatMap stepCommands (drop (suc k) (stepsOf f s))) (flatMap stateCommands (drop (suc s) xs)) (STATE (x .kind))
+    let b : flatMap stateCommands xs ≡ flatMap stateCommands (take s xs) ++ (stateCommands x ++ flatMap stateCommands (drop (suc s) xs)) =
+    ap (flatMap stateCommands) a ∙ flatMap-append stateCommands (take s xs) (x ∷ drop (suc s) xs) in
+    let c : flatMap stepCommands (stepsOf f s) ≡ flatMap stepCommands (take k (stepsOf f s)) ++
+    (stepCommands t ++ flatMap stepCommands (drop (suc k) (stepsOf f s))) =
+    ap (flatMap stepCommands) (split-here (stepsOf f s) k t e)
+    ∙ flatMap-append stepCommands (take k (stepsOf f s)) (t ∷ drop (suc k) (stepsOf f s)) in
+    let d : stateCommands x ≡ STATE (x .kind) ∷
+    (flatMap stepCommands (take k (stepsOf f s)) ++ (stepCommands t ++ flatMap stepCommands (drop (suc k) (stepsOf f s)))) =
+    ap (λ r. STATE (x .kind) ∷ r) c in
+    ap (λ r. map TIED (f .tied) ++ r) (b ∙ ap (λ r. flatMap stateCommands (take s xs) ++ (r ++ flatMap stateCommands (drop (suc s) xs))) d)
+    ∙ glue (map TIED (f .tied)) (flatMap stateCommands (take s xs)) (flatMap stepCommands (take k (stepsOf f s))) (stepCommands t)
+    (flatMap stepCommands (drop (suc k) (stepsOf f s))) (flatMap stateCommands (drop (suc s) xs)) (STATE (x .kind))
 
 -- the bytes behind a step
 bytesBehind : Formula → ℕ → ℕ → List ℕ
@@ -92,9 +103,18 @@ pub record StandsAt (f : Formula) (s k : ℕ) (t : Step) : Type 0 where
   pub clauses : drop (stepPlace f s k + 2) (encode f) ≡ flatMap encodeClause (t .clauses) ++ (encodeGuard (t .guard) ++ behind)
   pub guard : drop (guardPlace f s k t) (encode f) ≡ encodeGuard (t .guard) ++ behind
 
-encode-split : (f : Formula) (s k : ℕ) (t : Step) → stepAt f s k ≡ some t → encode f ≡ flatMap encodeCommand (commandsBefore f s k) ++ (encodeStep t ++ bytesBehind f s k)
+encode-split : (f : Formula) (s k : ℕ) (t : Step) → stepAt f s k ≡ some t
+    → encode f ≡ flatMap encodeCommand (commandsBefore f s k) ++ (encodeStep t ++ bytesBehind f s k)
 unfolding encode bytesBehind
-encode-split f s k t e = rw (commands-split f s k t e, flatMap-append encodeCommand (commandsBefore f s k) (stepCommands t ++ commandsBehind f s k), flatMap-append encodeCommand (stepCommands t) (commandsBehind f s k), step-bytes t, append-assoc (flatMap encodeCommand (commandsBefore f s k)) (encodeStep t ++ flatMap encodeCommand (commandsBehind f s k)) (0x00 ∷ []), append-assoc (encodeStep t) (flatMap encodeCommand (commandsBehind f s k)) (0x00 ∷ []))
+encode-split f s k t e =
+    rw (
+      commands-split f s k t e,
+      flatMap-append encodeCommand (commandsBefore f s k) (stepCommands t ++ commandsBehind f s k),
+      flatMap-append encodeCommand (stepCommands t) (commandsBehind f s k),
+      step-bytes t,
+      append-assoc (flatMap encodeCommand (commandsBefore f s k)) (encodeStep t ++ flatMap encodeCommand (commandsBehind f s k)) (0x00 ∷ []),
+      append-assoc (encodeStep t) (flatMap encodeCommand (commandsBehind f s k)) (0x00 ∷ []),
+    )
 
 -- where a step begins, and where its guard does
 pub step-stands : (f : Formula) (s k : ℕ) (t : Step) → stepAt f s k ≡ some t → StandsAt f s k t
@@ -106,8 +126,15 @@ step-stands f s k t e =
     let r = bytesBehind f s k in
     let a : encode f ≡ p ++ (encodeStep t ++ r) = encode-split f s k t e in
     let b : drop 2 (encodeStep t ++ r) ≡ q ++ (g ++ r) = append-assoc q g r in
-    let c : drop (2 + length q) (encodeStep t ++ r) ≡ g ++ r = sym (drop-drop (length q) 2 (encodeStep t ++ r)) ∙ (ap (drop (length q)) b ∙ drop-append-seam q (g ++ r)) in
-    record { behind = r; bytes = rw (a, drop-append-seam p (encodeStep t ++ r)); boundary = behind-boundary (drop (suc k) (stepsOf f s)) (drop (suc s) (f .states)); clauses = rw (a, drop-append-add p (encodeStep t ++ r) 2) b; guard = rw (a, drop-append-add p (encodeStep t ++ r) (2 + length q)) c }
+    let c : drop (2 + length q) (encodeStep t ++ r) ≡ g ++ r =
+    sym (drop-drop (length q) 2 (encodeStep t ++ r)) ∙ (ap (drop (length q)) b ∙ drop-append-seam q (g ++ r)) in
+    record {
+      behind = r;
+      bytes = rw (a, drop-append-seam p (encodeStep t ++ r));
+      boundary = behind-boundary (drop (suc k) (stepsOf f s)) (drop (suc s) (f .states));
+      clauses = rw (a, drop-append-add p (encodeStep t ++ r) 2) b;
+      guard = rw (a, drop-append-add p (encodeStep t ++ r) (2 + length q)) c;
+    }
 
 -- a step never begins at offset 0: its STATE stands before it
 pub place-positive : (f : Formula) (s k : ℕ) → 2 ≤ stepPlace f s k
@@ -121,7 +148,8 @@ place-positive f s k =
     rw (flatMap-append encodeCommand a (b ++ (STATE (kindAt f s) ∷ c)), p, flatMap-append encodeCommand b (STATE (kindAt f s) ∷ c), q) (omega arith)
 
 -- an entry of a part of the table
-pub table-entry : (f : Formula) (i n j : ℕ) → j < n → getD (tableFrom f i n) j 0 ≡ placeIf (stepAt f ((i + j) / 8) ((i + j) % 8)) (stepPlace f ((i + j) / 8) ((i + j) % 8))
+pub table-entry : (f : Formula) (i n j : ℕ) → j < n
+    → getD (tableFrom f i n) j 0 ≡ placeIf (stepAt f ((i + j) / 8) ((i + j) % 8)) (stepPlace f ((i + j) / 8) ((i + j) % 8))
 unfolding tableFrom
 table-entry f i zero j h = absurd (native.Mathlib.Nat.not-suc-le-zero h)
 table-entry f i (suc n) zero h = rw (native.Mathlib.Nat.add-zero i)

@@ -16,10 +16,12 @@ use Rattle.formula.specs.Formula.{TEST, TESTV, BIND, Formula}
 use Rattle.formula.specs.Encode.{Command, TIED, STATE, STEP, CLAUSE, GUARD, commands, encodeClause, encodeCommand, encode}
 use Rattle.formula.specs.Unbound.{isUnbound}
 use Rattle.formula.specs.Correct.{Exists, deadStart, Correct}
-use Rattle.formula.specs.Read.{Reading, accepted, refused, Summary, start, advance, Next, command, end, bad, next, gatherAll, assemble, firstAbsent, firstUnbound, refusedAt, judge, afterEnd, follow, readFrom, readFormula}
+use Rattle.formula.specs.declared.Summary.{Summary}
+use Rattle.formula.specs.Read.{Reading, accepted, refused, start, advance, Next, command, end, bad, next, assembly, assemble, firstAbsent}
+use Rattle.formula.specs.Read.{firstUnbound, refusedAt, judge, afterEnd, follow, readFrom, readFormula}
 use Rattle.formula.proofs.Basics.{bytes-drop, behind, all-both}
 use Rattle.formula.proofs.Commands.{Fits, Operands, Taken, Ended, Takes, next-taken, next-read, next-end}
-use Rattle.formula.proofs.Gather.{Follows, assemble-commands, commands-assemble}
+use Rattle.formula.proofs.Assembling.{Follows, assemble-commands, commands-assemble}
 use Rattle.formula.proofs.Counts.{Counts, counts-follow, follow-counts}
 use Rattle.formula.proofs.Order.{then-accepted}
 use Rattle.formula.proofs.AfterEnd.{Declared, exists-both, exists-operands, exists-declared, none-absent, declared-none, none-unbound, unbound-none}
@@ -37,20 +39,22 @@ advances-snoc : (s : Summary) (cs : List Command) (c : Command) → advances s (
 advances-snoc s [] c = refl
 advances-snoc s (d ∷ cs) c = advances-snoc (advance s d) cs c
 
--- the states passed are the states gathered
-states-gathered : (s : Summary) (cs : List Command) → advances s cs .states ≡ s .states + length (gatherAll cs .states)
-unfolding gatherAll
-states-gathered s [] = omega arith
-states-gathered s (TIED v ∷ cs) = states-gathered (advance s (TIED v)) cs
-states-gathered s (STATE k ∷ cs) = let i = states-gathered (advance s (STATE k)) cs in omega arith
-states-gathered s (STEP t ∷ cs) = states-gathered (advance s (STEP t)) cs
-states-gathered s (CLAUSE c ∷ cs) = states-gathered (advance s (CLAUSE c)) cs
-states-gathered s (GUARD e ∷ cs) = states-gathered (advance s (GUARD e)) cs
+-- the states passed are the states assembled
+states-assembled : (s : Summary) (cs : List Command) → advances s cs .states ≡ s .states + length (assembly cs .states)
+unfolding assembly
+states-assembled s [] = omega arith
+states-assembled s (TIED v ∷ cs) = states-assembled (advance s (TIED v)) cs
+states-assembled s (STATE k ∷ cs) = let i = states-assembled (advance s (STATE k)) cs in omega arith
+states-assembled s (STEP t ∷ cs) = states-assembled (advance s (STEP t)) cs
+states-assembled s (CLAUSE c ∷ cs) = states-assembled (advance s (CLAUSE c)) cs
+states-assembled s (GUARD e ∷ cs) = states-assembled (advance s (GUARD e)) cs
 
 -- the commands of a formula pass all its states
 pub states-passed : (f : Formula) → advances start (commands f) .states ≡ length (f .states)
 unfolding assemble start
-states-passed f = states-gathered start (commands f) ∙ (native.Mathlib.Nat.zero-add (length (gatherAll (commands f) .states)) ∙ ap (λ (x : Formula). length (x .states)) (assemble-commands f))
+states-passed f =
+    states-assembled start (commands f)
+    ∙ (native.Mathlib.Nat.zero-add (length (assembly (commands f) .states)) ∙ ap (λ (x : Formula). length (x .states)) (assemble-commands f))
 
 pub encode-snoc : (cs : List Command) (c : Command) → flatMap encodeCommand (cs ++ (c ∷ [])) ≡ flatMap encodeCommand cs ++ encodeCommand c
 unfolding flatMap
@@ -69,14 +73,21 @@ unfolding flatMap
 reached-start fields l = record { follows = tt; summary = refl; operands = tt; bytes = refl; place = refl }
 
 -- one command more
-pub reached-next : (fields : ℕ) (l : List ℕ) (s : Summary) (cs : List Command) (at : ℕ) (rest : List ℕ) (c : Command) (u : ℕ) → Reached fields l s cs at rest → Taken fields s rest c u → Reached fields l (advance s c) (cs ++ (c ∷ [])) (at + u) (drop u rest)
+pub reached-next : (fields : ℕ) (l : List ℕ) (s : Summary) (cs : List Command) (at : ℕ) (rest : List ℕ) (c : Command) (u : ℕ)
+    → Reached fields l s cs at rest → Taken fields s rest c u → Reached fields l (advance s c) (cs ++ (c ∷ [])) (at + u) (drop u rest)
 reached-next fields l s cs at rest c u r t =
     let d : drop u rest ≡ t .behind = behind rest (encodeCommand c) (t .behind) u (t .bytes) (t .used) in
     let e : l ≡ flatMap encodeCommand cs ++ (encodeCommand c ++ t .behind) = r .bytes ∙ ap (λ x. flatMap encodeCommand cs ++ x) (t .bytes) in
     let p = r .place in
     let q = t .used in
     let z = length-append (flatMap encodeCommand cs) (encodeCommand c) in
-    record { follows = follows-snoc start cs c (r .follows) (subst (λ x. Fits x c) (r .summary) (t .fits)); summary = ap (λ x. advance x c) (r .summary) ∙ sym (advances-snoc start cs c); operands = All-append (Operands fields) cs (c ∷ []) (r .operands) (t .operands, tt); bytes = rw (encode-snoc cs c, d, append-assoc (flatMap encodeCommand cs) (encodeCommand c) (t .behind)) e; place = rw (encode-snoc cs c) (omega arith) }
+    record {
+      follows = follows-snoc start cs c (r .follows) (subst (λ x. Fits x c) (r .summary) (t .fits));
+      summary = ap (λ x. advance x c) (r .summary) ∙ sym (advances-snoc start cs c);
+      operands = All-append (Operands fields) cs (c ∷ []) (r .operands) (t .operands, tt);
+      bytes = rw (encode-snoc cs c, d, append-assoc (flatMap encodeCommand cs) (encodeCommand c) (t .behind)) e;
+      place = rw (encode-snoc cs c) (omega arith);
+    }
 
 -- at END: the file up to there is the encoding of the commands' formula, which keeps the counts and has a state
 pub record Complete (fields : ℕ) (l : List ℕ) (f : Formula) (after : List ℕ) : Type 0 where
@@ -85,14 +96,21 @@ pub record Complete (fields : ℕ) (l : List ℕ) (f : Formula) (after : List �
   pub operands : All (Operands fields) (commands f)
   pub bytes : l ≡ encode f ++ after
 
-pub reached-end : (fields : ℕ) (l : List ℕ) (s : Summary) (cs : List Command) (at : ℕ) (rest : List ℕ) → Reached fields l s cs at rest → Ended s rest → Complete fields l (assemble cs) (drop 1 rest)
+pub reached-end : (fields : ℕ) (l : List ℕ) (s : Summary) (cs : List Command) (at : ℕ) (rest : List ℕ) → Reached fields l s cs at rest → Ended s rest
+    → Complete fields l (assemble cs) (drop 1 rest)
 unfolding encode assemble start
 reached-end fields l s cs at rest r t =
     let e : commands (assemble cs) ≡ cs = commands-assemble cs (r .follows) in
     let d : drop 1 rest ≡ t .behind = behind rest (0x00 ∷ []) (t .behind) 1 (t .bytes) refl in
-    let n : s .states ≡ length (gatherAll cs .states) = ap (λ (x : Summary). x .states) (r .summary) ∙ (states-gathered start cs ∙ native.Mathlib.Nat.zero-add (length (gatherAll cs .states))) in
+    let n : s .states ≡ length (assembly cs .states) =
+    ap (λ (x : Summary). x .states) (r .summary) ∙ (states-assembled start cs ∙ native.Mathlib.Nat.zero-add (length (assembly cs .states))) in
     let p = t .states in
-    record { counts = follow-counts (assemble cs) (subst (Follows start) (sym e) (r .follows)); nonempty = omega arith; operands = subst (All (Operands fields)) (sym e) (r .operands); bytes = rw (e, d, append-snoc (flatMap encodeCommand cs) 0x00 (t .behind), ← t .bytes) (r .bytes) }
+    record {
+      counts = follow-counts (assemble cs) (subst (Follows start) (sym e) (r .follows));
+      nonempty = omega arith;
+      operands = subst (All (Operands fields)) (sym e) (r .operands);
+      bytes = rw (e, d, append-snoc (flatMap encodeCommand cs) 0x00 (t .behind), ← t .bytes) (r .bytes);
+    }
 
 -- what a reading of l with so many fields may answer
 abbrev Right : ℕ → List ℕ → Reading → Type 0
@@ -105,29 +123,53 @@ refused-right fields l (some p) r x h = tt
 
 judge-right : (fields : ℕ) (l : List ℕ) (f : Formula) → Complete fields l f [] → Right fields l (judge f)
 unfolding judge
-judge-right fields l f c = refused-right fields l (firstAbsent (length (f .states)) 0 (commands f)) _ _ (λ a. cond-holds (Right fields l) (deadStart (f .states)) _ _ (λ d. tt) (λ d. refused-right fields l (firstUnbound (isUnbound f) 0 [] 0 (commands f)) _ _ (λ b. (c .bytes ∙ append-nil (encode f), record { tied = c .counts .tied; nonempty = c .nonempty; states = c .counts .states; each = c .counts .each; values = all-both (Operands fields) (Declared (length (f .states))) (Exists fields (length (f .states))) (exists-both fields (length (f .states))) (commands f) (c .operands) (none-absent (length (f .states)) 0 (commands f) a); start = d; bound = none-unbound f (c .counts .states) b }))))
+judge-right fields l f c =
+    refused-right fields l (firstAbsent (length (f .states)) 0 (commands f)) _ _
+    (λ a.
+    cond-holds (Right fields l) (deadStart (f .states)) _ _ (λ d. tt)
+    (λ d.
+    refused-right fields l (firstUnbound (isUnbound f) 0 [] 0 (commands f)) _ _
+    (λ b. (
+      c .bytes ∙ append-nil (encode f),
+      record {
+        tied = c .counts .tied;
+        nonempty = c .nonempty;
+        states = c .counts .states;
+        each = c .counts .each;
+        values = all-both (Operands fields) (Declared (length (f .states))) (Exists fields (length (f .states))) (exists-both fields (length (f .states)))
+            (commands f) (c .operands) (none-absent (length (f .states)) 0 (commands f) a);
+        start = d;
+        bound = none-unbound f (c .counts .states) b;
+      },
+    ))))
 
 end-right : (fields : ℕ) (l : List ℕ) (f : Formula) (at : ℕ) (after : List ℕ) → Complete fields l f after → Right fields l (afterEnd f at after)
 unfolding afterEnd
 end-right fields l f at [] c = judge-right fields l f c
 end-right fields l f at (b ∷ bs) c = tt
 
-follow-right : (fields : ℕ) (l : List ℕ) (go-on : Summary → List Command → ℕ → List ℕ → Reading) (s : Summary) (cs : List Command) (at : ℕ) (rest : List ℕ) → ((t : Summary) (ds : List Command) (k : ℕ) (u : ℕ) → Reached fields l t ds k (drop u rest) → Right fields l (go-on t ds k (drop u rest))) → Reached fields l s cs at rest → (x : Next) → Takes fields s rest x → Right fields l (follow go-on s cs at rest x)
+follow-right : (fields : ℕ) (l : List ℕ) (go-on : Summary → List Command → ℕ → List ℕ → Reading) (s : Summary) (cs : List Command) (at : ℕ) (rest : List ℕ)
+    → ((t : Summary) (ds : List Command) (k : ℕ) (u : ℕ) → Reached fields l t ds k (drop u rest) → Right fields l (go-on t ds k (drop u rest)))
+    → Reached fields l s cs at rest → (x : Next) → Takes fields s rest x → Right fields l (follow go-on s cs at rest x)
 follow-right fields l go-on s cs at rest h r (command c u) t = h (advance s c) (cs ++ (c ∷ [])) (at + u) u (reached-next fields l s cs at rest c u r t)
 follow-right fields l go-on s cs at rest h r end t = end-right fields l (assemble cs) (at + 1) (drop 1 rest) (reached-end fields l s cs at rest r t)
 follow-right fields l go-on s cs at rest h r (bad b) t = tt
 
-from-right : (n : ℕ) (fields : ℕ) (l : List ℕ) (s : Summary) (cs : List Command) (at : ℕ) (rest : List ℕ) → Bytes rest → Reached fields l s cs at rest → Right fields l (readFrom n fields s cs at rest)
+from-right : (n : ℕ) (fields : ℕ) (l : List ℕ) (s : Summary) (cs : List Command) (at : ℕ) (rest : List ℕ) → Bytes rest → Reached fields l s cs at rest
+    → Right fields l (readFrom n fields s cs at rest)
 unfolding readFrom
 from-right zero fields l s cs at rest b r = tt
-from-right (suc n) fields l s cs at rest b r = follow-right fields l (readFrom n fields) s cs at rest (λ t ds k u q. from-right n fields l t ds k (drop u rest) (bytes-drop u rest b) q) r (next fields s at rest) (next-taken fields s at rest b)
+from-right (suc n) fields l s cs at rest b r =
+    follow-right fields l (readFrom n fields) s cs at rest (λ t ds k u q. from-right n fields l t ds k (drop u rest) (bytes-drop u rest b) q) r
+    (next fields s at rest) (next-taken fields s at rest b)
 
 -- an accepted file is the encoding of the formula it is read as, which is correct
 pub accepted-correct : (fields : ℕ) (l : List ℕ) (f : Formula) → Bytes l → readFormula fields l ≡ accepted f → (l ≡ encode f) × Correct fields f
 unfolding readFormula
 accepted-correct fields l f b e = subst (Right fields l) e (from-right (suc (length l)) fields l start [] 0 l b (reached-start fields l))
 
-encode-long : (c : Command) → 1 ≤ length (encodeCommand c)
+-- every command has a byte
+pub encode-long : (c : Command) → 1 ≤ length (encodeCommand c)
 unfolding encodeCommand encodeClause
 encode-long (TIED v) = omega arith
 encode-long (STATE k) = omega arith
@@ -147,20 +189,28 @@ commands-short (c ∷ cs) =
     omega arith
 
 -- right commands are read to END, and then judged
-read-commands : (n fields : ℕ) (cs : List Command) (s : Summary) (done : List Command) (at : ℕ) → Follows s cs → All (Operands fields) cs → 0 < advances s cs .states → length cs < n → readFrom n fields s done at (flatMap encodeCommand cs ++ (0x00 ∷ [])) ≡ judge (assemble (done ++ cs))
+read-commands : (n fields : ℕ) (cs : List Command) (s : Summary) (done : List Command) (at : ℕ) → Follows s cs → All (Operands fields) cs
+    → 0 < advances s cs .states → length cs < n
+    → readFrom n fields s done at (flatMap encodeCommand cs ++ (0x00 ∷ [])) ≡ judge (assemble (done ++ cs))
 unfolding readFrom flatMap afterEnd
 read-commands zero fields cs s done at h o p k = absurd (not-suc-le-zero k)
 read-commands (suc n) fields [] s done at h o p k = rw (next-end fields s at [] p, append-nil done)
 read-commands (suc n) fields (c ∷ cs) s done at h o p k =
     let rest = flatMap encodeCommand cs ++ (0x00 ∷ []) in
     let i = read-commands n fields cs (advance s c) (done ++ (c ∷ [])) (at + length (encodeCommand c)) (h .1) (o .1) p (omega arith) in
-    rw (append-assoc (encodeCommand c) (flatMap encodeCommand cs) (0x00 ∷ []), next-read fields s at c rest (h .0) (o .0), drop-append-seam (encodeCommand c) rest) (i ∙ ap (λ x. judge (assemble x)) (append-snoc done c cs))
+    rw (
+      append-assoc (encodeCommand c) (flatMap encodeCommand cs) (0x00 ∷ []),
+      next-read fields s at c rest (h .0) (o .0),
+      drop-append-seam (encodeCommand c) rest,
+    )
+    (i ∙ ap (λ x. judge (assemble x)) (append-snoc done c cs))
 
 judge-accepts : (fields : ℕ) (f : Formula) → Correct fields f → judge f ≡ accepted f
 unfolding afterEnd
 judge-accepts fields f c =
     let P = Exists fields (length (f .states)) in
-    let declared = all-both P P (Declared (length (f .states))) (λ x y z. exists-declared fields (length (f .states)) x y) (commands f) (c .values) (c .values) in
+    let declared =
+    all-both P P (Declared (length (f .states))) (λ x y z. exists-declared fields (length (f .states)) x y) (commands f) (c .values) (c .values) in
     then-accepted f 0 (declared-none (length (f .states)) 0 (commands f) declared) (c .start) (unbound-none f (c .bound))
 
 -- the encoding of a correct formula is accepted and read as that formula
@@ -168,12 +218,15 @@ pub correct-accepted : (fields : ℕ) (f : Formula) → Correct fields f → rea
 unfolding readFormula encode
 correct-accepted fields f c =
     let h : Follows start (commands f) = counts-follow f (record { tied = c .tied; states = c .states; each = c .each }) in
-    let o : All (Operands fields) (commands f) = all-both (Exists fields (length (f .states))) (Exists fields (length (f .states))) (Operands fields) (λ x y z. exists-operands fields (length (f .states)) x y) (commands f) (c .values) (c .values) in
+    let o : All (Operands fields) (commands f) =
+    all-both (Exists fields (length (f .states))) (Exists fields (length (f .states))) (Operands fields)
+    (λ x y z. exists-operands fields (length (f .states)) x y) (commands f) (c .values) (c .values) in
     let n = states-passed f in
     let p = c .nonempty in
     let k = commands-short (commands f) in
     let l = length-append (flatMap encodeCommand (commands f)) (0x00 ∷ []) in
-    read-commands (suc (length (encode f))) fields (commands f) start [] 0 h o (omega arith) (omega arith) ∙ (ap judge (assemble-commands f) ∙ judge-accepts fields f c)
+    read-commands (suc (length (encode f))) fields (commands f) start [] 0 h o (omega arith) (omega arith)
+    ∙ (ap judge (assemble-commands f) ∙ judge-accepts fields f c)
 
 -- the encoding loses nothing
 pub encode-injective : (fields : ℕ) (f g : Formula) → Correct fields f → Correct fields g → encode f ≡ encode g → f ≡ g

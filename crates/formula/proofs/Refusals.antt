@@ -14,11 +14,20 @@ use Rattle.base.specs.Value.{bytesOf, valueAt}
 use Rattle.refusal.specs.declared.File.the-variants.{Formula as InFormula}
 use Rattle.refusal.specs.declared.Refusal.{Refusal}
 use Rattle.refusal.specs.declared.Refusal.the-variants.{CutShort, Foreign, Value, Surplus, Leftover, DeadStart, Unbound as UnboundAt}
-use Rattle.formula.specs.Formula.{Expr, CONST, VAR, COUNT, ADD, SUB, LESS, ATMOST, EQUAL, NOT, AND, OR, IF, Clause, TEST, TESTV, BIND, Formula}
-use Rattle.formula.specs.Encode.{Command, TIED, STATE, STEP, CLAUSE, GUARD, guardCommands, stepCommands, stateCommands, commands, encodeExpr, encodeClause, encodeCommand}
-use Rattle.formula.specs.Unbound.{binds, isUnbound}
+use Rattle.formula.specs.Formula.{Leaf, Expr, LEAF, ADD, SUB, LESS, ATMOST, EQUAL, NOT, AND, OR, IF, Clause, TEST, TESTV, BIND, Formula}
+use Rattle.formula.specs.Encode.{Command, TIED, STATE, STEP, CLAUSE, GUARD, guardCommands, stepCommands, stateCommands, commands, encodeExpr}
+use Rattle.formula.specs.Encode.{encodeClause, encodeCommand}
+use Rattle.formula.specs.Unbound.{isUnbound}
 use Rattle.formula.specs.Correct.{deadStart}
-use Rattle.formula.specs.Read.{Reading, accepted, refused, Summary, start, advance, Opcode, end-op, state-op, step-op, test-op, testv-op, bind-op, guard-op, tied-op, other-op, opcode, allowed, room, operatorOf, kindOf, ExprNext, expression, failed, ExprOpcode, const-op, var-op, count-op, unary, binary, ternary, foreign-op, exprOpcode, overOf, over, andThen, exprOf, exprWith, readExpr, Next, command, end, bad, operands, guardOf, operandsOf, next, Gathered, gather, gatherAll, assemble, orElse, when, firstLeaf, absentIn, firstAbsent, seenAfter, ownAfter, unboundIn, firstUnbound, refusedAt, judge, afterEnd, follow, readFrom, readFormula}
+use Rattle.formula.specs.declared.Summary.{Summary}
+use Rattle.formula.specs.declared.Opcode.{Opcode}
+use Rattle.formula.specs.declared.Opcode.the-variants.{End as end-op, State as state-op, Step as step-op, Test as test-op, Testv as testv-op}
+use Rattle.formula.specs.declared.Opcode.the-variants.{Bind as bind-op, Guard as guard-op, Tied as tied-op, Other as other-op}
+use Rattle.formula.specs.Read.{Reading, accepted, refused, start, advance, opcode, allowed, room, operatorOf, kindOf, ExprNext, expression}
+use Rattle.formula.specs.Read.{failed, ExprOpcode, const-op, var-op, count-op, unary, binary, ternary, foreign-op, exprOpcode, overOf, over}
+use Rattle.formula.specs.Read.{andThen, exprOf, exprWith, readExpr, Next, command, end, bad, operands, guardOf, operandsOf, next, Assembly}
+use Rattle.formula.specs.Read.{inFront, assembly, assemble, orElse, when, firstLeaf, absentLeaf, absentIn, firstAbsent, seenAfter, ownAfter}
+use Rattle.formula.specs.Read.{unboundLeaf, unboundIn, firstUnbound, refusedAt, judge, afterEnd, follow, readFrom, readFormula}
 use Rattle.formula.proofs.Reading.{encode-snoc}
 
 -- a refusal of a formula with n bytes
@@ -44,8 +53,11 @@ OneMore foreign-op = Unit {0}
 two : (a b : Expr) → suc (length (encodeExpr a ++ encodeExpr b)) ≡ suc (length (encodeExpr a) + length (encodeExpr b))
 two a b = ap suc (length-append (encodeExpr a) (encodeExpr b))
 
-three : (a b c : Expr) → suc (length (encodeExpr a ++ (encodeExpr b ++ encodeExpr c))) ≡ suc (length (encodeExpr a) + (length (encodeExpr b) + length (encodeExpr c)))
-three a b c = ap suc (length-append (encodeExpr a) (encodeExpr b ++ encodeExpr c) ∙ ap (λ k. length (encodeExpr a) + k) (length-append (encodeExpr b) (encodeExpr c)))
+three : (a b c : Expr)
+    → suc (length (encodeExpr a ++ (encodeExpr b ++ encodeExpr c))) ≡ suc (length (encodeExpr a) + (length (encodeExpr b) + length (encodeExpr c)))
+three a b c =
+    ap suc
+    (length-append (encodeExpr a) (encodeExpr b ++ encodeExpr c) ∙ ap (λ k. length (encodeExpr a) + k) (length-append (encodeExpr b) (encodeExpr c)))
 
 one-of : (t : Bool) (x y : ExprOpcode) → OneMore x → OneMore y → OneMore (cond t x y)
 one-of t x y h k = cond-holds OneMore t x y (λ e. h) (λ e. k)
@@ -97,15 +109,21 @@ module _ (n : ℕ) where
 
   module _ (op : ℕ → ℕ → List ℕ → ExprNext) (tells : Telling op) (left at b : ℕ) (ops : List ℕ) (here : at + suc (length ops) ≡ n) where
     -- a command without operands that are expressions, of `width` bytes behind its own
-    leaf-tells : (width : ℕ) (x : ExprNext) → (width ≤ length ops → ExprTells (b ∷ ops) x) → ExprTells (b ∷ ops) (cond (ltb (length ops) width) (failed (CutShort InFormula at)) x)
-    leaf-tells width x f = cond-holds (ExprTells (b ∷ ops)) (ltb (length ops) width) _ _ (λ t. cut-short {p = at} (omega arith)) (λ t. f (ltb-false (length ops) width t))
+    leaf-tells : (width : ℕ) (x : ExprNext) → (width ≤ length ops → ExprTells (b ∷ ops) x)
+        → ExprTells (b ∷ ops) (cond (ltb (length ops) width) (failed (CutShort InFormula at)) x)
+    leaf-tells width x f =
+        cond-holds (ExprTells (b ∷ ops)) (ltb (length ops) width) _ _ (λ t. cut-short {p = at} (omega arith))
+        (λ t. f (ltb-false (length ops) width t))
 
     of-tells : (w : ExprOpcode) → OneMore w → ExprTells (b ∷ ops) (exprOf op left at ops w)
     unfolding encodeExpr bytesOf
     of-tells const-op g = leaf-tells 4 _ (λ k. (refl, omega arith))
-    of-tells var-op g = leaf-tells 1 _ (λ k. cond-holds (ExprTells (b ∷ ops)) (ltb (getD ops 0 0) 8) _ _ (λ t. (refl, omega arith)) (λ t. value {p = at} (omega arith)))
+    of-tells var-op g =
+        leaf-tells 1 _
+        (λ k. cond-holds (ExprTells (b ∷ ops)) (ltb (getD ops 0 0) 8) _ _ (λ t. (refl, omega arith)) (λ t. value {p = at} (omega arith)))
     of-tells count-op g = leaf-tells 1 _ (λ k. (refl, omega arith))
-    of-tells (unary mk) g = then-tells ops (b ∷ ops) (op left (at + 1) ops) _ (tells left (at + 1) ops (omega arith)) (λ a u m e i. (omega (arith, g a), omega arith))
+    of-tells (unary mk) g =
+        then-tells ops (b ∷ ops) (op left (at + 1) ops) _ (tells left (at + 1) ops (omega arith)) (λ a u m e i. (omega (arith, g a), omega arith))
     of-tells (binary mk) g =
         then-tells ops (b ∷ ops) (op left (at + 1) ops) _ (tells left (at + 1) ops (omega arith))
         (λ a u m e i.
@@ -153,8 +171,12 @@ module _ (n : ℕ) where
     opcode-tells end-op = omega arith
     opcode-tells state-op = operands-tell 1 (ltb (getD ops 0 0) 4) (STATE (kindOf (getD ops 0 0))) refl
     opcode-tells step-op = operands-tell 1 true (STEP (getD ops 0 0)) refl
-    opcode-tells test-op = operands-tell 6 (ltb (getD ops 0 0) fields && ltb (getD ops 1 0) 6) (CLAUSE (TEST (getD ops 0 0) (operatorOf (getD ops 1 0)) (valueAt ops 2))) refl
-    opcode-tells testv-op = operands-tell 3 (ltb (getD ops 0 0) fields && ltb (getD ops 1 0) 6 && ltb (getD ops 2 0) 8) (CLAUSE (TESTV (getD ops 0 0) (operatorOf (getD ops 1 0)) (getD ops 2 0))) refl
+    opcode-tells test-op =
+        operands-tell 6 (ltb (getD ops 0 0) fields && ltb (getD ops 1 0) 6) (CLAUSE (TEST (getD ops 0 0) (operatorOf (getD ops 1 0)) (valueAt ops 2)))
+        refl
+    opcode-tells testv-op =
+        operands-tell 3 (ltb (getD ops 0 0) fields && ltb (getD ops 1 0) 6 && ltb (getD ops 2 0) 8)
+        (CLAUSE (TESTV (getD ops 0 0) (operatorOf (getD ops 1 0)) (getD ops 2 0))) refl
     opcode-tells bind-op = operands-tell 2 (ltb (getD ops 0 0) fields && ltb (getD ops 1 0) 8) (CLAUSE (BIND (getD ops 0 0) (getD ops 1 0))) refl
     opcode-tells guard-op = guard-tells b ops (readExpr 8 31 (at + 1) ops) (expr-tells 8 31 (at + 1) ops (omega arith))
     opcode-tells tied-op = operands-tell 1 (ltb (getD ops 0 0) 8) (TIED (getD ops 0 0)) refl
@@ -181,20 +203,19 @@ when-within : (n : ℕ) (t : Bool) (at : ℕ) → at ≤ n → Within n (when t 
 when-within n true at h = place h
 when-within n false at h = nowhere
 
-module _ (n : ℕ) (p q : ℕ → Bool) where
+module _ (n : ℕ) (p : Leaf → Bool) where
   abbrev LeafWithin : ℕ → Expr → Type 0
-  LeafWithin at e = at + length (encodeExpr e) ≤ n → Within n (firstLeaf p q at e)
+  LeafWithin at e = at + length (encodeExpr e) ≤ n → Within n (firstLeaf p at e)
 
   -- two operands in a row
-  two-within : (at : ℕ) (a b : Expr) → at + suc (length (encodeExpr a ++ encodeExpr b)) ≤ n → LeafWithin (at + 1) a → LeafWithin (at + 1 + length (encodeExpr a)) b
-      → Within n (orElse (firstLeaf p q (at + 1) a) (firstLeaf p q (at + 1 + length (encodeExpr a)) b))
+  two-within : (at : ℕ) (a b : Expr) → at + suc (length (encodeExpr a ++ encodeExpr b)) ≤ n → LeafWithin (at + 1) a
+      → LeafWithin (at + 1 + length (encodeExpr a)) b
+      → Within n (orElse (firstLeaf p (at + 1) a) (firstLeaf p (at + 1 + length (encodeExpr a)) b))
   two-within at a b h f g = let k = length-append (encodeExpr a) (encodeExpr b) in else-within (f (omega arith)) (g (omega arith))
 
   leaf-within : (at : ℕ) (e : Expr) → LeafWithin at e
   unfolding firstLeaf encodeExpr
-  leaf-within at (CONST v) h = nowhere
-  leaf-within at (VAR v) h = when-within n (p v) at (omega arith)
-  leaf-within at (COUNT s) h = when-within n (q s) at (omega arith)
+  leaf-within at (LEAF l) h = when-within n (p l) at (omega arith)
   leaf-within at (ADD a b) h = two-within at a b h (leaf-within (at + 1) a) (leaf-within (at + 1 + length (encodeExpr a)) b)
   leaf-within at (SUB a b) h = two-within at a b h (leaf-within (at + 1) a) (leaf-within (at + 1 + length (encodeExpr a)) b)
   leaf-within at (LESS a b) h = two-within at a b h (leaf-within (at + 1) a) (leaf-within (at + 1 + length (encodeExpr a)) b)
@@ -228,7 +249,7 @@ absent-within n states at (TIED v) h = nowhere
 absent-within n states at (STATE k) h = nowhere
 absent-within n states at (STEP t) h = when-within n (not (ltb t states)) at (omega arith)
 absent-within n states at (CLAUSE c) h = nowhere
-absent-within n states at (GUARD e) h = leaf-within n (λ v. false) (λ s. not (ltb s states)) (at + 1) e (omega arith)
+absent-within n states at (GUARD e) h = leaf-within n (absentLeaf states) (at + 1) e (omega arith)
 
 first-absent-within : (n states at : ℕ) (cs : List Command) → at + bytesIn cs ≤ n → Within n (firstAbsent states at cs)
 unfolding firstAbsent
@@ -246,44 +267,48 @@ module _ (n : ℕ) (open-at : ℕ → ℕ → Bool) where
   unbound-within seen own at (CLAUSE (TEST f o x)) h = nowhere
   unbound-within seen own at (CLAUSE (TESTV f o v)) h = when-within n (open-at v (seen - 1)) at (omega arith)
   unbound-within seen own at (CLAUSE (BIND f v)) h = nowhere
-  unbound-within seen own at (GUARD e) h = leaf-within n (λ v. open-at v (seen - 1) && not (binds v own)) (λ s. false) (at + 1) e (omega arith)
+  unbound-within seen own at (GUARD e) h = leaf-within n (unboundLeaf open-at seen own) (at + 1) e (omega arith)
 
   first-unbound-within : (seen : ℕ) (own : List Clause) (at : ℕ) (cs : List Command) → at + bytesIn cs ≤ n → Within n (firstUnbound open-at seen own at cs)
   unfolding firstUnbound
   first-unbound-within seen own at [] h = nowhere
   first-unbound-within seen own at (c ∷ cs) h =
       let k = bytes-cons c cs in
-      else-within (unbound-within seen own at c (omega arith)) (first-unbound-within (seenAfter seen c) (ownAfter own c) (at + length (encodeCommand c)) cs (omega arith))
+      else-within (unbound-within seen own at c (omega arith))
+      (first-unbound-within (seenAfter seen c) (ownAfter own c) (at + length (encodeCommand c)) cs (omega arith))
 
--- the bytes of all that is gathered
-weight : Gathered → ℕ
-weight g = bytesIn (map TIED (g .tied)) + (bytesIn (map CLAUSE (g .clauses)) + (bytesIn (guardCommands (g .guard)) + (bytesIn (flatMap stepCommands (g .steps)) + bytesIn (flatMap stateCommands (g .states)))))
+-- the bytes of all that is assembled
+weight : Assembly → ℕ
+weight g =
+    bytesIn (map TIED (g .tied)) +
+    (bytesIn (map CLAUSE (g .clauses)) +
+    (bytesIn (guardCommands (g .guard)) + (bytesIn (flatMap stepCommands (g .steps)) + bytesIn (flatMap stateCommands (g .states)))))
 
 -- a command adds no more than its own bytes
-gather-weight : (c : Command) (g : Gathered) → weight (gather c g) ≤ length (encodeCommand c) + weight g
+front-weight : (c : Command) (g : Assembly) → weight (inFront c g) ≤ length (encodeCommand c) + weight g
 unfolding weight flatMap guardCommands stepCommands stateCommands
-gather-weight (TIED v) g = omega (arith, bytes-cons (TIED v) (map TIED (g .tied)))
-gather-weight (STATE k) g =
+front-weight (TIED v) g = omega (arith, bytes-cons (TIED v) (map TIED (g .tied)))
+front-weight (STATE k) g =
     let ts = flatMap stepCommands (g .steps) in
     omega (arith, bytes-append (STATE k ∷ ts) (flatMap stateCommands (g .states)), bytes-cons (STATE k) ts)
-gather-weight (STEP t) g =
+front-weight (STEP t) g =
     let cs = map CLAUSE (g .clauses) in
     let o = guardCommands (g .guard) in
     omega (arith, bytes-append (STEP t ∷ (cs ++ o)) (flatMap stepCommands (g .steps)), bytes-cons (STEP t) (cs ++ o), bytes-append cs o)
-gather-weight (CLAUSE c) g = omega (arith, bytes-cons (CLAUSE c) (map CLAUSE (g .clauses)))
-gather-weight (GUARD e) g = omega (arith, bytes-cons (GUARD e) [])
+front-weight (CLAUSE c) g = omega (arith, bytes-cons (CLAUSE c) (map CLAUSE (g .clauses)))
+front-weight (GUARD e) g = omega (arith, bytes-cons (GUARD e) [])
 
-gathered-weight : (cs : List Command) → weight (gatherAll cs) ≤ bytesIn cs
-unfolding weight gatherAll flatMap guardCommands
-gathered-weight [] = omega arith
-gathered-weight (c ∷ cs) = omega (arith, bytes-cons c cs, gather-weight c (gatherAll cs), gathered-weight cs)
+assembly-weight : (cs : List Command) → weight (assembly cs) ≤ bytesIn cs
+unfolding weight assembly flatMap guardCommands
+assembly-weight [] = omega arith
+assembly-weight (c ∷ cs) = omega (arith, bytes-cons c cs, front-weight c (assembly cs), assembly-weight cs)
 
 -- the formula of some commands has no more bytes than they have
 assembled-short : (cs : List Command) → bytesIn (commands (assemble cs)) ≤ bytesIn cs
 unfolding weight assemble commands
 assembled-short cs =
-    let g = gatherAll cs in
-    omega (arith, gathered-weight cs, bytes-append (map TIED (g .tied)) (flatMap stateCommands (g .states)))
+    let g = assembly cs in
+    omega (arith, assembly-weight cs, bytes-append (map TIED (g .tied)) (flatMap stateCommands (g .states)))
 
 -- READING, in a file of n bytes
 module _ (n : ℕ) where
@@ -291,7 +316,8 @@ module _ (n : ℕ) where
   Answers (accepted f) = Unit {0}
   Answers (refused r) = FormulaRefusal n r
 
-  refused-answers : {o : Option ℕ} (r : ℕ → Refusal) (x : Reading) → Within n o → ((p : ℕ) → p ≤ n → FormulaRefusal n (r p)) → Answers x → Answers (refusedAt o r x)
+  refused-answers : {o : Option ℕ} (r : ℕ → Refusal) (x : Reading) → Within n o → ((p : ℕ) → p ≤ n → FormulaRefusal n (r p)) → Answers x
+      → Answers (refusedAt o r x)
   refused-answers r x nowhere f k = k
   refused-answers r x (place {p} h) f k = f p h
 
@@ -310,16 +336,20 @@ module _ (n : ℕ) where
   -- the commands read so far have the bytes before `at`
   follow-answers : (go-on : Summary → List Command → ℕ → List ℕ → Reading)
       → ((s : Summary) (cs : List Command) (at : ℕ) (bs : List ℕ) → bytesIn cs ≡ at → at + length bs ≡ n → Answers (go-on s cs at bs))
-      → (s : Summary) (cs : List Command) (at : ℕ) (bs : List ℕ) → bytesIn cs ≡ at → at + length bs ≡ n → (x : Next) → Tells n bs x → Answers (follow go-on s cs at bs x)
+      → (s : Summary) (cs : List Command) (at : ℕ) (bs : List ℕ) → bytesIn cs ≡ at → at + length bs ≡ n → (x : Next) → Tells n bs x
+      → Answers (follow go-on s cs at bs x)
   follow-answers go-on f s cs at bs h k (command c u) t =
       f (advance s c) (cs ++ (c ∷ [])) (at + u) (drop u bs) (omega (arith, bytes-snoc cs c, t .0)) (omega (arith, length-drop u bs, t .1))
-  follow-answers go-on f s cs at bs h k end t = end-answers (assemble cs) (at + 1) (drop 1 bs) (omega (arith, assembled-short cs)) (omega (arith, length-drop 1 bs))
+  follow-answers go-on f s cs at bs h k end t =
+      end-answers (assemble cs) (at + 1) (drop 1 bs) (omega (arith, assembled-short cs)) (omega (arith, length-drop 1 bs))
   follow-answers go-on f s cs at bs h k (bad r) t = t
 
-  from-answers : (fuel fields : ℕ) (s : Summary) (cs : List Command) (at : ℕ) (bs : List ℕ) → bytesIn cs ≡ at → at + length bs ≡ n → Answers (readFrom fuel fields s cs at bs)
+  from-answers : (fuel fields : ℕ) (s : Summary) (cs : List Command) (at : ℕ) (bs : List ℕ) → bytesIn cs ≡ at → at + length bs ≡ n
+      → Answers (readFrom fuel fields s cs at bs)
   unfolding readFrom
   from-answers zero fields s cs at bs h k = cut-short {p = at} (omega arith)
-  from-answers (suc fuel) fields s cs at bs h k = follow-answers (readFrom fuel fields) (from-answers fuel fields) s cs at bs h k (next fields s at bs) (next-tells n fields s at bs k)
+  from-answers (suc fuel) fields s cs at bs h k =
+      follow-answers (readFrom fuel fields) (from-answers fuel fields) s cs at bs h k (next fields s at bs) (next-tells n fields s at bs k)
 
 -- Whatever a formula is refused with is a refusal of a formula of its length.
 pub formula-refusal : (fields : ℕ) (l : List ℕ) (r : Refusal) → readFormula fields l ≡ refused r → FormulaRefusal (length l) r

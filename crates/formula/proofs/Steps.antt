@@ -56,6 +56,17 @@ right-step fields f s k t c e =
     let p = all-some StepFits (x .steps) k t e (h .each) in
     let q = p .1 in
     let m = h .steps in
-    let a : All (Exists fields n) (commandsBefore f s k ++ (stepCommands t ++ commandsBehind f s k)) = subst (All (Exists fields n)) (commands-split f s k t e) (c .values) in
-    let b = all-left (Exists fields n) (stepCommands t) (commandsBehind f s k) (all-right (Exists fields n) (commandsBefore f s k) (stepCommands t ++ commandsBehind f s k) a) in
-    record { state = i; number = omega arith; kind = has-step x k t h e (isFinal (x .kind)) refl; fits = p .0; target = b .0; clauses = all-map (Exists fields n) CLAUSE (t .clauses) (all-left (Exists fields n) (map CLAUSE (t .clauses)) (guardCommands (t .guard)) (b .1)); guard = all-right (Exists fields n) (map CLAUSE (t .clauses)) (guardCommands (t .guard)) (b .1) }
+    let a : All (Exists fields n) (commandsBefore f s k ++ (stepCommands t ++ commandsBehind f s k)) =
+    subst (All (Exists fields n)) (commands-split f s k t e) (c .values) in
+    let b =
+    all-left (Exists fields n) (stepCommands t) (commandsBehind f s k)
+    (all-right (Exists fields n) (commandsBefore f s k) (stepCommands t ++ commandsBehind f s k) a) in
+    record {
+      state = i;
+      number = omega arith;
+      kind = has-step x k t h e (isFinal (x .kind)) refl;
+      fits = p .0;
+      target = b .0;
+      clauses = all-map (Exists fields n) CLAUSE (t .clauses) (all-left (Exists fields n) (map CLAUSE (t .clauses)) (guardCommands (t .guard)) (b .1));
+      guard = all-right (Exists fields n) (map CLAUSE (t .clauses)) (guardCommands (t .guard)) (b .1);
+    }

@@ -14,7 +14,8 @@ use Rattle.formula.specs.Encode.{Command, TIED, STATE, STEP, CLAUSE, GUA
 use Rattle.formula.specs.Unbound.{stepsOf}
 use Rattle.formula.specs.Correct.{StateFits}
 use Rattle.formula.specs.Lookup.{stepAt, kindAt, commandsBefore, stepPlace, placeIf, stepTable}
-use Rattle.formula.specs.Read.{Summary, start, advance}
+use Rattle.formula.specs.declared.Summary.{Summary}
+use Rattle.formula.specs.Read.{start, advance}
 use Rattle.formula.proofs.Closure.{noState, no-steps}
 use Rattle.formula.proofs.Counts.{Counts, Same}
 use Rattle.formula.proofs.Reading.{advances}
@@ -34,13 +35,15 @@ fill s at tab [] = tab
 fill s at tab (c ∷ cs) = fill (advance s c) (at + length (encodeCommand c)) (filled s at c tab) cs
 
 -- one command more
-pub fill-snoc : (s : Summary) (at : ℕ) (tab : List ℕ) (cs : List Command) (c : Command) → fill s at tab (cs ++ (c ∷ [])) ≡ filled (advances s cs) (at + length (flatMap encodeCommand cs)) c (fill s at tab cs)
+pub fill-snoc : (s : Summary) (at : ℕ) (tab : List ℕ) (cs : List Command) (c : Command)
+    → fill s at tab (cs ++ (c ∷ [])) ≡ filled (advances s cs) (at + length (flatMap encodeCommand cs)) c (fill s at tab cs)
 unfolding fill flatMap
 fill-snoc s at tab [] c = rw (native.Mathlib.Nat.add-zero at)
 fill-snoc s at tab (d ∷ cs) c =
     let l = length-append (encodeCommand d) (flatMap encodeCommand cs) in
     let e : at + length (encodeCommand d) + length (flatMap encodeCommand cs) ≡ at + length (encodeCommand d ++ flatMap encodeCommand cs) = omega arith in
-    fill-snoc (advance s d) (at + length (encodeCommand d)) (filled s at d tab) cs c ∙ ap (λ n. filled (advances (advance s d) cs) n c (fill (advance s d) (at + length (encodeCommand d)) (filled s at d tab) cs)) e
+    fill-snoc (advance s d) (at + length (encodeCommand d)) (filled s at d tab) cs c
+    ∙ ap (λ n. filled (advances (advance s d) cs) n c (fill (advance s d) (at + length (encodeCommand d)) (filled s at d tab) cs)) e
 
 -- the table's entry i
 entry : Formula → ℕ → ℕ
@@ -115,16 +118,21 @@ entry-some f s k t e h =
     rw (a, b, e)
 
 -- the next step begins behind this one
-place-next : (f : Formula) (s k : ℕ) (t : Step) → stepAt f s k ≡ some t → stepPlace f s (suc k) ≡ stepPlace f s k + length (flatMap encodeCommand (stepCommands t))
+place-next : (f : Formula) (s k : ℕ) (t : Step) → stepAt f s k ≡ some t
+    → stepPlace f s (suc k) ≡ stepPlace f s k + length (flatMap encodeCommand (stepCommands t))
 unfolding stepAt stepPlace commandsBefore
 place-next f s k t e =
     let a = map TIED (f .tied) in
     let b = flatMap stateCommands (take s (f .states)) in
     let p = flatMap stepCommands (take k (stepsOf f s)) in
     let x = STATE (kindAt f s) in
-    let c : flatMap stepCommands (take (suc k) (stepsOf f s)) ≡ p ++ stepCommands t = ap (flatMap stepCommands) (take-next (stepsOf f s) k t e) ∙ (flatMap-append stepCommands (take k (stepsOf f s)) (t ∷ []) ∙ ap (λ r. p ++ r) (one-step t)) in
-    let d : a ++ (b ++ (x ∷ (p ++ stepCommands t))) ≡ (a ++ (b ++ (x ∷ p))) ++ stepCommands t = rw (append-assoc a (b ++ (x ∷ p)) (stepCommands t), append-assoc b (x ∷ p) (stepCommands t)) in
-    rw (c, d, flatMap-append encodeCommand (a ++ (b ++ (x ∷ p))) (stepCommands t)) (length-append (flatMap encodeCommand (a ++ (b ++ (x ∷ p)))) (flatMap encodeCommand (stepCommands t)))
+    let c : flatMap stepCommands (take (suc k) (stepsOf f s)) ≡ p ++ stepCommands t =
+    ap (flatMap stepCommands) (take-next (stepsOf f s) k t e)
+    ∙ (flatMap-append stepCommands (take k (stepsOf f s)) (t ∷ []) ∙ ap (λ r. p ++ r) (one-step t)) in
+    let d : a ++ (b ++ (x ∷ (p ++ stepCommands t))) ≡ (a ++ (b ++ (x ∷ p))) ++ stepCommands t =
+    rw (append-assoc a (b ++ (x ∷ p)) (stepCommands t), append-assoc b (x ∷ p) (stepCommands t)) in
+    rw (c, d, flatMap-append encodeCommand (a ++ (b ++ (x ∷ p))) (stepCommands t))
+    (length-append (flatMap encodeCommand (a ++ (b ++ (x ∷ p)))) (flatMap encodeCommand (stepCommands t)))
   where
     one-step : (y : Step) → flatMap stepCommands (y ∷ []) ≡ stepCommands y
     one-step y = unfold flatMap in append-nil (stepCommands y)
@@ -146,21 +154,33 @@ quiet-clauses (x ∷ xs) o = (tt, quiet-clauses xs o)
 sum : (n : ℕ) (a b : List ℕ) → n + length (a ++ b) ≡ n + length a + length b
 sum n a b = let l = length-append a b in omega arith
 
-fill-quiet : (qs : List Command) (s : Summary) (at : ℕ) (tab : List ℕ) (cs : List Command) (r : List ℕ) → All Quiet qs → ((t : Summary) → Same s t → fill t (at + length (flatMap encodeCommand qs)) tab cs ≡ r) → fill s at tab (qs ++ cs) ≡ r
+fill-quiet : (qs : List Command) (s : Summary) (at : ℕ) (tab : List ℕ) (cs : List Command) (r : List ℕ) → All Quiet qs
+    → ((t : Summary) → Same s t → fill t (at + length (flatMap encodeCommand qs)) tab cs ≡ r) → fill s at tab (qs ++ cs) ≡ r
 unfolding fill flatMap
 fill-quiet [] s at tab cs r q c = subst (λ n. fill s n tab cs ≡ r) (native.Mathlib.Nat.add-zero at) (c s (record { states = refl; last = refl; steps = refl }))
 fill-quiet (TIED v ∷ qs) s at tab cs r q c = absurd (q .0)
 fill-quiet (STATE k ∷ qs) s at tab cs r q c = absurd (q .0)
 fill-quiet (STEP t ∷ qs) s at tab cs r q c = absurd (q .0)
-fill-quiet (CLAUSE x ∷ qs) s at tab cs r q c = fill-quiet qs (advance s (CLAUSE x)) (at + length (encodeCommand (CLAUSE x))) tab cs r (q .1) (λ t h. subst (λ n. fill t n tab cs ≡ r) (sum at (encodeCommand (CLAUSE x)) (flatMap encodeCommand qs)) (c t (record { states = h .states; last = h .last; steps = h .steps })))
-fill-quiet (GUARD x ∷ qs) s at tab cs r q c = fill-quiet qs (advance s (GUARD x)) (at + length (encodeCommand (GUARD x))) tab cs r (q .1) (λ t h. subst (λ n. fill t n tab cs ≡ r) (sum at (encodeCommand (GUARD x)) (flatMap encodeCommand qs)) (c t (record { states = h .states; last = h .last; steps = h .steps })))
+fill-quiet (CLAUSE x ∷ qs) s at tab cs r q c =
+    fill-quiet qs (advance s (CLAUSE x)) (at + length (encodeCommand (CLAUSE x))) tab cs r (q .1)
+    (λ t h.
+    subst (λ n. fill t n tab cs ≡ r) (sum at (encodeCommand (CLAUSE x)) (flatMap encodeCommand qs))
+    (c t (record { states = h .states; last = h .last; steps = h .steps })))
+fill-quiet (GUARD x ∷ qs) s at tab cs r q c =
+    fill-quiet qs (advance s (GUARD x)) (at + length (encodeCommand (GUARD x))) tab cs r (q .1)
+    (λ t h.
+    subst (λ n. fill t n tab cs ≡ r) (sum at (encodeCommand (GUARD x)) (flatMap encodeCommand qs))
+    (c t (record { states = h .states; last = h .last; steps = h .steps })))
 
 step-there : (f : Formula) (s k : ℕ) (t : Step) → getElem? (stepsOf f s) k ≡ some t → stepAt f s k ≡ some t
 unfolding stepAt
 step-there f s k t e = e
 
 -- the steps of state s from number k on enter their offsets
-fill-steps : (f : Formula) (s : ℕ) (ts : List Step) (k : ℕ) (m : Summary) (at : ℕ) (tab : List ℕ) (cs : List Command) (r : List ℕ) → drop k (stepsOf f s) ≡ ts → m .states ≡ suc s → m .steps ≡ k → at ≡ stepPlace f s k → Upto f (s * 8 + k) tab → k + length ts ≤ 8 → s < 16 → ((n : Summary) (j : ℕ) (t : List ℕ) → n .states ≡ suc s → j ≡ stepPlace f s (k + length ts) → Upto f (s * 8 + (k + length ts)) t → fill n j t cs ≡ r) → fill m at tab (flatMap stepCommands ts ++ cs) ≡ r
+fill-steps : (f : Formula) (s : ℕ) (ts : List Step) (k : ℕ) (m : Summary) (at : ℕ) (tab : List ℕ) (cs : List Command) (r : List ℕ)
+    → drop k (stepsOf f s) ≡ ts → m .states ≡ suc s → m .steps ≡ k → at ≡ stepPlace f s k → Upto f (s * 8 + k) tab → k + length ts ≤ 8 → s < 16
+    → ((n : Summary) (j : ℕ) (t : List ℕ) → n .states ≡ suc s → j ≡ stepPlace f s (k + length ts) → Upto f (s * 8 + (k + length ts)) t → fill n j t cs ≡ r)
+    → fill m at tab (flatMap stepCommands ts ++ cs) ≡ r
 unfolding fill flatMap stepCommands
 fill-steps f s [] k m at tab cs r d ms mk a u h l c =
     let e : k + 0 ≡ k = omega arith in
@@ -173,9 +193,19 @@ fill-steps f s (x ∷ ts) k m at tab cs r d ms mk a u h l c =
     let i : (m .states - 1) * 8 + m .steps ≡ s * 8 + k = omega arith in
     let q : suc (s * 8 + k) ≡ s * 8 + suc k = omega arith in
     let e : suc k + length ts ≡ k + suc (length ts) = omega arith in
-    let v : Upto f (s * 8 + suc k) new = subst (λ n. Upto f (s * 8 + suc k) (set tab n at)) (sym i) (subst (λ n. Upto f n (set tab (s * 8 + k) at)) q (upto-set f (s * 8 + k) tab at u (omega arith) (a ∙ sym (entry-some f s k x there (omega arith))))) in
-    let b : at + length (encodeCommand (STEP (x .target))) + length (flatMap encodeCommand qs) ≡ stepPlace f s (suc k) = sym (sum at (encodeCommand (STEP (x .target))) (flatMap encodeCommand qs)) ∙ (ap (λ n. n + length (flatMap encodeCommand (stepCommands x))) a ∙ sym (place-next f s k x there)) in
-    rw (append-assoc qs (flatMap stepCommands ts) cs) (fill-quiet qs (advance m (STEP (x .target))) (at + length (encodeCommand (STEP (x .target)))) new (flatMap stepCommands ts ++ cs) r (quiet-clauses (x .clauses) (x .guard)) (λ n g. fill-steps f s ts (suc k) n (at + length (encodeCommand (STEP (x .target))) + length (flatMap encodeCommand qs)) new cs r (p .1) (g .states ∙ ms) (g .steps ∙ ap suc mk) b v (omega arith) l (λ o j t y z w. c o j t y (z ∙ ap (stepPlace f s) e) (subst (λ n. Upto f (s * 8 + n) t) e w))))
+    let v : Upto f (s * 8 + suc k) new =
+    subst (λ n. Upto f (s * 8 + suc k) (set tab n at)) (sym i)
+    (subst (λ n. Upto f n (set tab (s * 8 + k) at)) q
+    (upto-set f (s * 8 + k) tab at u (omega arith) (a ∙ sym (entry-some f s k x there (omega arith))))) in
+    let b : at + length (encodeCommand (STEP (x .target))) + length (flatMap encodeCommand qs) ≡ stepPlace f s (suc k) =
+    sym (sum at (encodeCommand (STEP (x .target))) (flatMap encodeCommand qs))
+    ∙ (ap (λ n. n + length (flatMap encodeCommand (stepCommands x))) a ∙ sym (place-next f s k x there)) in
+    rw (append-assoc qs (flatMap stepCommands ts) cs)
+    (fill-quiet qs (advance m (STEP (x .target))) (at + length (encodeCommand (STEP (x .target)))) new (flatMap stepCommands ts ++ cs) r
+    (quiet-clauses (x .clauses) (x .guard))
+    (λ n g.
+    fill-steps f s ts (suc k) n (at + length (encodeCommand (STEP (x .target))) + length (flatMap encodeCommand qs)) new cs r (p .1) (g .states ∙ ms)
+    (g .steps ∙ ap suc mk) b v (omega arith) l (λ o j t y z w. c o j t y (z ∙ ap (stepPlace f s) e) (subst (λ n. Upto f (s * 8 + n) t) e w))))
 
 -- where state n stands
 statePlace : Formula → ℕ → ℕ
@@ -204,12 +234,22 @@ steps-there f n x e = ap (λ (y : State). y .steps) (elem-default (f .states) n 
 
 last-place : (f : Formula) (n : ℕ) (x : State) → getElem? (f .states) n ≡ some x → stepPlace f n (length (x .steps)) ≡ statePlace f (suc n)
 unfolding stepPlace commandsBefore statePlace
-last-place f n x e = rw (kind-there f n x e, steps-there f n x e, take-length (x .steps), take-next (f .states) n x e, flatMap-append stateCommands (take n (f .states)) (x ∷ []), one-state x)
+last-place f n x e =
+    rw (
+      kind-there f n x e,
+      steps-there f n x e,
+      take-length (x .steps),
+      take-next (f .states) n x e,
+      flatMap-append stateCommands (take n (f .states)) (x ∷ []),
+      one-state x,
+    )
 
 -- behind the last state the table is whole
 upto-whole : (f : Formula) (n : ℕ) (tab : List ℕ) → Upto f (n * 8) tab → length (f .states) ≤ n → n ≤ 16 → tab ≡ stepTable f
 unfolding stepTable entry
-upto-whole f n tab u h k = ext-getD 0 tab (stepTable f) (u .long ∙ sym (table-length f)) (λ i l. whole .done i (below i l) ∙ sym (table-entry f 0 128 i (below i l) ∙ ap (entry f) (native.Mathlib.Nat.zero-add i)))
+upto-whole f n tab u h k =
+    ext-getD 0 tab (stepTable f) (u .long ∙ sym (table-length f))
+    (λ i l. whole .done i (below i l) ∙ sym (table-entry f 0 128 i (below i l) ∙ ap (entry f) (native.Mathlib.Nat.zero-add i)))
   where
     none-there : (i : ℕ) → n * 8 ≤ i → i < 128 → entry f i ≡ 0
     none-there i p q = entry-none f i (subst (λ xs. length xs ≤ i % 8) (sym (no-steps f (i / 8) (omega arith))) zero-le)
@@ -221,7 +261,8 @@ upto-whole f n tab u h k = ext-getD 0 tab (stepTable f) (u .long ∙ sym (table-
     below i l = subst (λ m. i < m) (u .long) l
 
 -- the states from number n on enter their steps
-fill-states : (f : Formula) (xs : List State) (n : ℕ) (m : Summary) (at : ℕ) (tab : List ℕ) → drop n (f .states) ≡ xs → m .states ≡ n → at ≡ statePlace f n → Upto f (n * 8) tab → n + length xs ≤ 16 → All StateFits xs → fill m at tab (flatMap stateCommands xs) ≡ stepTable f
+fill-states : (f : Formula) (xs : List State) (n : ℕ) (m : Summary) (at : ℕ) (tab : List ℕ) → drop n (f .states) ≡ xs → m .states ≡ n
+    → at ≡ statePlace f n → Upto f (n * 8) tab → n + length xs ≤ 16 → All StateFits xs → fill m at tab (flatMap stateCommands xs) ≡ stepTable f
 unfolding fill flatMap stateCommands encodeCommand
 fill-states f [] n m at tab d e a u h k =
     let l : length (f .states) - n ≡ 0 = sym (length-drop n (f .states)) ∙ ap length d in
@@ -232,19 +273,33 @@ fill-states f (x ∷ xs) n m at tab d e a u h k =
     let b = k .0 .steps in
     let z : n * 8 + 0 ≡ n * 8 = omega arith in
     let y : 0 + length (x .steps) ≡ length (x .steps) = omega arith in
-    fill-steps f n (x .steps) 0 (advance m (STATE (x .kind))) (at + 2) tab (flatMap stateCommands xs) (stepTable f) s (ap suc e) refl (ap (λ j. j + 2) a ∙ sym (first-place f n)) (rw z u) (omega arith) (omega arith) (λ o j t q r w. fill-states f xs (suc n) o j t (p .1) q (r ∙ (ap (stepPlace f n) y ∙ last-place f n x (p .0))) (upto-skip f (n * 8 + (0 + length (x .steps))) (suc n * 8) t w (omega arith) (λ i c g. entry-none f i (past i c g s))) (omega arith) (k .1))
+    fill-steps f n (x .steps) 0 (advance m (STATE (x .kind))) (at + 2) tab (flatMap stateCommands xs) (stepTable f) s (ap suc e) refl
+    (ap (λ j. j + 2) a ∙ sym (first-place f n)) (rw z u) (omega arith) (omega arith)
+    (λ o j t q r w.
+    fill-states f xs (suc n) o j t (p .1) q (r ∙ (ap (stepPlace f n) y ∙ last-place f n x (p .0)))
+    (upto-skip f (n * 8 + (0 + length (x .steps))) (suc n * 8) t w (omega arith) (λ i c g. entry-none f i (past i c g s))) (omega arith) (k .1))
   where
     past : (i : ℕ) → n * 8 + (0 + length (x .steps)) ≤ i → i < suc n * 8 → stepsOf f n ≡ x .steps → length (stepsOf f (i / 8)) ≤ i % 8
     past i c g s =
         let q : i / 8 ≡ n = omega arith in
         rw (q, s) (omega arith)
 
-fill-tied : (f : Formula) (vs : List ℕ) (m : Summary) (at : ℕ) (tab : List ℕ) (cs : List Command) (r : List ℕ) → ((n : Summary) → n .states ≡ m .states → fill n (at + length (flatMap encodeCommand (map TIED vs))) tab cs ≡ r) → fill m at tab (map TIED vs ++ cs) ≡ r
+fill-tied : (f : Formula) (vs : List ℕ) (m : Summary) (at : ℕ) (tab : List ℕ) (cs : List Command) (r : List ℕ)
+    → ((n : Summary) → n .states ≡ m .states → fill n (at + length (flatMap encodeCommand (map TIED vs))) tab cs ≡ r)
+    → fill m at tab (map TIED vs ++ cs) ≡ r
 unfolding fill flatMap
 fill-tied f [] m at tab cs r c = subst (λ n. fill m n tab cs ≡ r) (native.Mathlib.Nat.add-zero at) (c m refl)
-fill-tied f (v ∷ vs) m at tab cs r c = fill-tied f vs (advance m (TIED v)) (at + length (encodeCommand (TIED v))) tab cs r (λ n e. subst (λ j. fill n j tab cs ≡ r) (sum at (encodeCommand (TIED v)) (flatMap encodeCommand (map TIED vs))) (c n e))
+fill-tied f (v ∷ vs) m at tab cs r c =
+    fill-tied f vs (advance m (TIED v)) (at + length (encodeCommand (TIED v))) tab cs r
+    (λ n e. subst (λ j. fill n j tab cs ≡ r) (sum at (encodeCommand (TIED v)) (flatMap encodeCommand (map TIED vs))) (c n e))
 
 -- filled with all commands of a formula, the empty table is the formula's
 pub fill-table : (f : Formula) → Counts f → fill start 0 (replicate 128 0) (commands f) ≡ stepTable f
 unfolding commands start statePlace flatMap
-fill-table f h = fill-tied f (f .tied) start 0 (replicate 128 0) (flatMap stateCommands (f .states)) (stepTable f) (λ n e. fill-states f (f .states) 0 n (0 + length (flatMap encodeCommand (map TIED (f .tied)))) (replicate 128 0) refl e (native.Mathlib.Nat.zero-add (length (flatMap encodeCommand (map TIED (f .tied)))) ∙ ap (λ r. length (flatMap encodeCommand r)) (sym (append-nil (map TIED (f .tied))))) (upto-start f) (let k = h .states in omega arith) (h .each))
+fill-table f h =
+    fill-tied f (f .tied) start 0 (replicate 128 0) (flatMap stateCommands (f .states)) (stepTable f)
+    (λ n e.
+    fill-states f (f .states) 0 n (0 + length (flatMap encodeCommand (map TIED (f .tied)))) (replicate 128 0) refl e
+    (native.Mathlib.Nat.zero-add (length (flatMap encodeCommand (map TIED (f .tied))))
+    ∙ ap (λ r. length (flatMap encodeCommand r)) (sym (append-nil (map TIED (f .tied)))))
+    (upto-start f) (let k = h .states in omega arith) (h .each))

@@ -16,7 +16,8 @@ bit-shift true p d = rw (mul-add p 1 (2 * d), mul-one, mul-assoc p 2 d)
 bit-shift false p d = rw (zero-add (2 * d), zero-add (p * 2 * d), mul-assoc p 2 d)
 
 -- flags that say which of the variables from v on are tied make their bits
-pub mask-from : (ws : List ℕ) (v : ℕ) (hs : List Bool) → ((k : ℕ) → k < length hs → getD hs k false ≡ isTied (v + k) ws) → maskFrom ws v (length hs) ≡ 2 ^ v * mask hs
+pub mask-from : (ws : List ℕ) (v : ℕ) (hs : List Bool) → ((k : ℕ) → k < length hs → getD hs k false ≡ isTied (v + k) ws)
+    → maskFrom ws v (length hs) ≡ 2 ^ v * mask hs
 unfolding maskFrom mask
 mask-from ws v [] h = rw (mul-zero (2 ^ v))
 mask-from ws v (x ∷ hs) h =

@@ -6,16 +6,14 @@ use mathlib.Core.List.{List, [], _∷_}
 use mathlib.Core.Option.{Option, none, some}
 use lib.ListN.{length}
 use Rattle.base.specs.Lists.{All}
-use Rattle.formula.specs.Formula.{Expr, CONST, VAR, COUNT, ADD, SUB, LESS, ATMOST, EQUAL, NOT, AND, OR, IF}
+use Rattle.formula.specs.Formula.{Leaf, CONST, VAR, COUNT, Expr, LEAF, ADD, SUB, LESS, ATMOST, EQUAL, NOT, AND, OR, IF}
 use Rattle.formula.specs.Formula.{Clause, TEST, TESTV, BIND, Step, StateKind, ordinary, committed, accept, reject, State, Formula}
 use Rattle.formula.specs.Encode.{Command, TIED, STATE, STEP, CLAUSE, GUARD, commands}
 use Rattle.formula.specs.Unbound.{binds, Unbound}
 
 -- "At most 31 commands": the commands of an expression
 unfoldable pub size : Expr → ℕ
-size (CONST v) = 1
-size (VAR v) = 1
-size (COUNT s) = 1
+size (LEAF l) = 1
 size (ADD a b) = suc (size a + size b)
 size (SUB a b) = suc (size a + size b)
 size (LESS a b) = suc (size a + size b)
@@ -28,9 +26,7 @@ size (IF c a b) = suc (size c + (size a + size b))
 
 -- "nested at most 8 deep, the outermost being depth 1"
 unfoldable pub depth : Expr → ℕ
-depth (CONST v) = 1
-depth (VAR v) = 1
-depth (COUNT s) = 1
+depth (LEAF l) = 1
 depth (ADD a b) = suc (max (depth a) (depth b))
 depth (SUB a b) = suc (max (depth a) (depth b))
 depth (LESS a b) = suc (max (depth a) (depth b))
@@ -41,20 +37,18 @@ depth (AND a b) = suc (max (depth a) (depth b))
 depth (OR a b) = suc (max (depth a) (depth b))
 depth (IF c a b) = suc (max (depth c) (max (depth a) (depth b)))
 
--- every CONST, VAR and COUNT of the expression has its property
-abbrev pub Leaves : (ℕ → Type 0) → (ℕ → Type 0) → (ℕ → Type 0) → Expr → Type 0
-Leaves P Q R (CONST v) = P v
-Leaves P Q R (VAR v) = Q v
-Leaves P Q R (COUNT s) = R s
-Leaves P Q R (ADD a b) = Leaves P Q R a × Leaves P Q R b
-Leaves P Q R (SUB a b) = Leaves P Q R a × Leaves P Q R b
-Leaves P Q R (LESS a b) = Leaves P Q R a × Leaves P Q R b
-Leaves P Q R (ATMOST a b) = Leaves P Q R a × Leaves P Q R b
-Leaves P Q R (EQUAL a b) = Leaves P Q R a × Leaves P Q R b
-Leaves P Q R (NOT a) = Leaves P Q R a
-Leaves P Q R (AND a b) = Leaves P Q R a × Leaves P Q R b
-Leaves P Q R (OR a b) = Leaves P Q R a × Leaves P Q R b
-Leaves P Q R (IF c a b) = Leaves P Q R c × Leaves P Q R a × Leaves P Q R b
+-- every leaf of the expression has the property
+abbrev pub Leaves : (Leaf → Type 0) → Expr → Type 0
+Leaves P (LEAF l) = P l
+Leaves P (ADD a b) = Leaves P a × Leaves P b
+Leaves P (SUB a b) = Leaves P a × Leaves P b
+Leaves P (LESS a b) = Leaves P a × Leaves P b
+Leaves P (ATMOST a b) = Leaves P a × Leaves P b
+Leaves P (EQUAL a b) = Leaves P a × Leaves P b
+Leaves P (NOT a) = Leaves P a
+Leaves P (AND a b) = Leaves P a × Leaves P b
+Leaves P (OR a b) = Leaves P a × Leaves P b
+Leaves P (IF c a b) = Leaves P c × Leaves P a × Leaves P b
 
 -- "accept or reject"
 abbrev pub isFinal : StateKind → Bool
@@ -71,6 +65,12 @@ Variable v = v < 8
 abbrev pub Value : ℕ → Type 0
 Value v = v < 4294967296
 
+-- the leaf's value, variable or state exists, given the number of states
+abbrev pub LeafExists : ℕ → Leaf → Type 0
+LeafExists states (CONST v) = Value v
+LeafExists states (VAR v) = Variable v
+LeafExists states (COUNT s) = s < states
+
 -- the command's field, variable, value and states exist, given the number of fields and states
 abbrev pub Exists : ℕ → ℕ → Command → Type 0
 Exists fields states (TIED v) = Variable v
@@ -79,7 +79,7 @@ Exists fields states (STEP t) = t < states
 Exists fields states (CLAUSE (TEST f o v)) = (f < fields) × Value v
 Exists fields states (CLAUSE (TESTV f o v)) = (f < fields) × Variable v
 Exists fields states (CLAUSE (BIND f v)) = (f < fields) × Variable v
-Exists fields states (GUARD e) = Leaves Value Variable (λ s. s < states) e
+Exists fields states (GUARD e) = Leaves (LeafExists states) e
 
 -- "At most 31 commands, nested at most 8 deep"
 abbrev pub GuardFits : Option Expr → Type 0
@@ -103,10 +103,16 @@ ClauseBound f s (TEST g o x) = Unit {0}
 ClauseBound f s (TESTV g o v) = ¬ Unbound f v s
 ClauseBound f s (BIND g v) = Unit {0}
 
--- "At a VAR the step's own BINDs count too"
+-- "At a VAR the step's own BINDs count too": no leaf of a guard in state s, behind the clauses own, is a VAR of an unbound variable
+abbrev pub LeafBound : Formula → ℕ → List Clause → Leaf → Type 0
+LeafBound f s own (CONST x) = Unit {0}
+LeafBound f s own (VAR v) = binds v own ≡ false → ¬ Unbound f v s
+LeafBound f s own (COUNT t) = Unit {0}
+
+-- no leaf of the guard is unbound
 abbrev pub GuardBound : Formula → ℕ → List Clause → Option Expr → Type 0
 GuardBound f s own none = Unit {0}
-GuardBound f s own (some e) = Leaves (λ x. Unit {0}) (λ v. binds v own ≡ false → ¬ Unbound f v s) (λ x. Unit {0}) e
+GuardBound f s own (some e) = Leaves (LeafBound f s own) e
 
 -- no TESTV and no VAR of the step, which stands in state s, is unbound
 pub record StepBound (f : Formula) (s : ℕ) (t : Step) : Type 0 where

@@ -4,7 +4,7 @@ use mathlib.Core.List.{List, [], _∷_, _++_, map, flatMap}
 use mathlib.Core.Option.{Option, none, some}
 use Rattle.base.specs.Value.{bytesOf}
 use Rattle.formula.specs.Formula.{Operator, equal, unequal, less, greater, atmost, atleast}
-use Rattle.formula.specs.Formula.{Expr, CONST, VAR, COUNT, ADD, SUB, LESS, ATMOST, EQUAL, NOT, AND, OR, IF}
+use Rattle.formula.specs.Formula.{Leaf, CONST, VAR, COUNT, Expr, LEAF, ADD, SUB, LESS, ATMOST, EQUAL, NOT, AND, OR, IF}
 use Rattle.formula.specs.Formula.{Clause, TEST, TESTV, BIND, Step, StateKind, ordinary, committed, accept, reject, State, Formula}
 
 -- a command of the file but END; a TEST, TESTV or BIND is a clause of its STEP
@@ -47,11 +47,15 @@ kindByte committed = 1
 kindByte accept = 2
 kindByte reject = 3
 
+-- "20 CONST value, 21 VAR variable, 22 COUNT state"
+abbrev pub encodeLeaf : Leaf → List ℕ
+encodeLeaf (CONST v) = 0x20 ∷ bytesOf v
+encodeLeaf (VAR v) = 0x21 ∷ v ∷ []
+encodeLeaf (COUNT s) = 0x22 ∷ s ∷ []
+
 -- "one expression follows in prefix order": a command, then its operands
 unfoldable pub encodeExpr : Expr → List ℕ
-encodeExpr (CONST v) = 0x20 ∷ bytesOf v
-encodeExpr (VAR v) = 0x21 ∷ v ∷ []
-encodeExpr (COUNT s) = 0x22 ∷ s ∷ []
+encodeExpr (LEAF l) = encodeLeaf l
 encodeExpr (ADD a b) = 0x23 ∷ (encodeExpr a ++ encodeExpr b)
 encodeExpr (SUB a b) = 0x24 ∷ (encodeExpr a ++ encodeExpr b)
 encodeExpr (LESS a b) = 0x25 ∷ (encodeExpr a ++ encodeExpr b)

@@ -7,11 +7,15 @@ use mathlib.Core.Option.{Option}
 pub data Operator : Type 0 where
   equal unequal less greater atmost atleast : Operator
 
--- "Expressions": one constructor a command, operands in prefix order
+-- "CONST value, VAR variable, COUNT state": the expressions that hold no other
+pub data Leaf : Type 0 where
+  CONST : ℕ → Leaf
+  VAR : ℕ → Leaf
+  COUNT : ℕ → Leaf
+
+-- "Expressions": a leaf, or one constructor a command, operands in prefix order
 pub data Expr : Type 0 where
-  CONST : ℕ → Expr
-  VAR : ℕ → Expr
-  COUNT : ℕ → Expr
+  LEAF : Leaf → Expr
   ADD : Expr → Expr → Expr
   SUB : Expr → Expr → Expr
   LESS : Expr → Expr → Expr

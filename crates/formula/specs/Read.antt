@@ -9,8 +9,12 @@ use Rattle.base.specs.Value.{valueAt}
 use Rattle.refusal.specs.declared.File.the-variants.{Formula as InFormula}
 use Rattle.refusal.specs.declared.Refusal.{Refusal}
 use Rattle.refusal.specs.declared.Refusal.the-variants.{CutShort, Foreign, Value, Surplus, Leftover, DeadStart, Unbound as UnboundAt}
+use Rattle.formula.specs.declared.Summary.{Summary}
+use Rattle.formula.specs.declared.Opcode.{Opcode}
+use Rattle.formula.specs.declared.Opcode.the-variants.{End as end-op, State as state-op, Step as step-op, Test as test-op, Testv as testv-op}
+use Rattle.formula.specs.declared.Opcode.the-variants.{Bind as bind-op, Guard as guard-op, Tied as tied-op, Other as other-op}
 use Rattle.formula.specs.Formula.{Operator, equal, unequal, less, greater, atmost, atleast}
-use Rattle.formula.specs.Formula.{Expr, CONST, VAR, COUNT, ADD, SUB, LESS, ATMOST, EQUAL, NOT, AND, OR, IF}
+use Rattle.formula.specs.Formula.{Leaf, CONST, VAR, COUNT, Expr, LEAF, ADD, SUB, LESS, ATMOST, EQUAL, NOT, AND, OR, IF}
 use Rattle.formula.specs.Formula.{Clause, TEST, TESTV, BIND, Step, StateKind, ordinary, committed, accept, reject, State, Formula}
 use Rattle.formula.specs.Encode.{Command, TIED, STATE, STEP, CLAUSE, GUARD, encodeExpr, encodeCommand, commands}
 use Rattle.formula.specs.Unbound.{binds, isUnbound}
@@ -21,15 +25,7 @@ pub data Reading : Type 0 where
   accepted : Formula → Reading
   refused : Refusal → Reading
 
--- What decides about the next command: how many TIEDs, states, steps of the last state and clauses of the last step were read, whether the last state accepts or rejects, whether the last step has its GUARD
-pub record Summary : Type 0 where
-  pub tied : ℕ
-  pub states : ℕ
-  pub last : Bool
-  pub steps : ℕ
-  pub clauses : ℕ
-  pub guarded : Bool
-
+-- What decides about the next command is a Summary of those before it, declared with the opcodes in src/lib.rt; that of none
 unfoldable pub start : Summary
 start = record { tied = 0; states = 0; last = false; steps = 0; clauses = 0; guarded = false }
 
@@ -42,11 +38,16 @@ advance s (CLAUSE c) = record { tied = s .tied; states = s .states; last = s .la
 advance s (GUARD e) = record { tied = s .tied; states = s .states; last = s .last; steps = s .steps; clauses = s .clauses; guarded = true }
 
 -- the command that a byte names
-pub data Opcode : Type 0 where
-  end-op state-op step-op test-op testv-op bind-op guard-op tied-op other-op : Opcode
-
 unfoldable pub opcode : ℕ → Opcode
-opcode b = cond (eqb b 0x00) end-op (cond (eqb b 0x10) state-op (cond (eqb b 0x11) step-op (cond (eqb b 0x12) test-op (cond (eqb b 0x13) testv-op (cond (eqb b 0x14) bind-op (cond (eqb b 0x15) guard-op (cond (eqb b 0x16) tied-op other-op)))))))
+opcode b =
+    cond (eqb b 0x00) end-op
+    (cond (eqb b 0x10) state-op
+    (cond (eqb b 0x11) step-op
+    (cond (eqb b 0x12) test-op
+    (cond (eqb b 0x13) testv-op
+    (cond (eqb b 0x14) bind-op
+    (cond (eqb b 0x15) guard-op
+    (cond (eqb b 0x16) tied-op other-op)))))))
 
 -- 2 "foreign: unknown command, or one not allowed there": the commands that are allowed
 abbrev pub allowed : Summary → Opcode → Bool
@@ -102,7 +103,19 @@ pub data ExprOpcode : Type 0 where
 
 -- "20 CONST value, 21 VAR variable, 22 COUNT state, 23 ADD, 24 SUB, 25 LESS, 26 ATMOST, 27 EQUAL, 28 NOT, 29 AND, 2A OR, 2B IF"
 unfoldable pub exprOpcode : ℕ → ExprOpcode
-exprOpcode b = cond (eqb b 0x20) const-op (cond (eqb b 0x21) var-op (cond (eqb b 0x22) count-op (cond (eqb b 0x23) (binary ADD) (cond (eqb b 0x24) (binary SUB) (cond (eqb b 0x25) (binary LESS) (cond (eqb b 0x26) (binary ATMOST) (cond (eqb b 0x27) (binary EQUAL) (cond (eqb b 0x28) (unary NOT) (cond (eqb b 0x29) (binary AND) (cond (eqb b 0x2A) (binary OR) (cond (eqb b 0x2B) (ternary IF) foreign-op)))))))))))
+exprOpcode b =
+    cond (eqb b 0x20) const-op
+    (cond (eqb b 0x21) var-op
+    (cond (eqb b 0x22) count-op
+    (cond (eqb b 0x23) (binary ADD)
+    (cond (eqb b 0x24) (binary SUB)
+    (cond (eqb b 0x25) (binary LESS)
+    (cond (eqb b 0x26) (binary ATMOST)
+    (cond (eqb b 0x27) (binary EQUAL)
+    (cond (eqb b 0x28) (unary NOT)
+    (cond (eqb b 0x29) (binary AND)
+    (cond (eqb b 0x2A) (binary OR)
+    (cond (eqb b 0x2B) (ternary IF) foreign-op)))))))))))
 
 -- no command is allowed here any more: one that begins an expression is surplus, any other foreign
 abbrev pub overOf : ℕ → ExprOpcode → ExprNext
@@ -125,12 +138,19 @@ andThen (failed r) k = failed r
 
 -- an expression command at `at` with the bytes behind it; `left` commands are still allowed, `operand` reads one operand
 abbrev pub exprOf : (ℕ → ℕ → List ℕ → ExprNext) → ℕ → ℕ → List ℕ → ExprOpcode → ExprNext
-exprOf operand left at ops const-op = cond (ltb (length ops) 4) (failed (CutShort InFormula at)) (expression (CONST (valueAt ops 0)) 5 left)
-exprOf operand left at ops var-op = cond (ltb (length ops) 1) (failed (CutShort InFormula at)) (cond (ltb (getD ops 0 0) 8) (expression (VAR (getD ops 0 0)) 2 left) (failed (Value InFormula at)))
-exprOf operand left at ops count-op = cond (ltb (length ops) 1) (failed (CutShort InFormula at)) (expression (COUNT (getD ops 0 0)) 2 left)
+exprOf operand left at ops const-op = cond (ltb (length ops) 4) (failed (CutShort InFormula at)) (expression (LEAF (CONST (valueAt ops 0))) 5 left)
+exprOf operand left at ops var-op =
+    cond (ltb (length ops) 1) (failed (CutShort InFormula at))
+    (cond (ltb (getD ops 0 0) 8) (expression (LEAF (VAR (getD ops 0 0))) 2 left) (failed (Value InFormula at)))
+exprOf operand left at ops count-op = cond (ltb (length ops) 1) (failed (CutShort InFormula at)) (expression (LEAF (COUNT (getD ops 0 0))) 2 left)
 exprOf operand left at ops (unary mk) = andThen (operand left (at + 1) ops) (λ a u m. expression (mk a) (1 + u) m)
-exprOf operand left at ops (binary mk) = andThen (operand left (at + 1) ops) (λ a u m. andThen (operand m (at + 1 + u) (drop u ops)) (λ b w n. expression (mk a b) (1 + u + w) n))
-exprOf operand left at ops (ternary mk) = andThen (operand left (at + 1) ops) (λ a u m. andThen (operand m (at + 1 + u) (drop u ops)) (λ b w n. andThen (operand n (at + 1 + u + w) (drop (u + w) ops)) (λ c x k. expression (mk a b c) (1 + u + w + x) k)))
+exprOf operand left at ops (binary mk) =
+    andThen (operand left (at + 1) ops) (λ a u m. andThen (operand m (at + 1 + u) (drop u ops)) (λ b w n. expression (mk a b) (1 + u + w) n))
+exprOf operand left at ops (ternary mk) =
+    andThen (operand left (at + 1) ops)
+    (λ a u m.
+    andThen (operand m (at + 1 + u) (drop u ops))
+    (λ b w n. andThen (operand n (at + 1 + u + w) (drop (u + w) ops)) (λ c x k. expression (mk a b c) (1 + u + w + x) k)))
 exprOf operand left at ops foreign-op = failed (Foreign InFormula at)
 
 unfoldable pub exprWith : (ℕ → ℕ → List ℕ → ExprNext) → ℕ → ℕ → List ℕ → ExprNext
@@ -163,8 +183,11 @@ abbrev pub operandsOf : ℕ → ℕ → List ℕ → Opcode → Next
 operandsOf fields at ops end-op = end
 operandsOf fields at ops state-op = operands at ops 1 (ltb (getD ops 0 0) 4) (STATE (kindOf (getD ops 0 0)))
 operandsOf fields at ops step-op = operands at ops 1 true (STEP (getD ops 0 0))
-operandsOf fields at ops test-op = operands at ops 6 (ltb (getD ops 0 0) fields && ltb (getD ops 1 0) 6) (CLAUSE (TEST (getD ops 0 0) (operatorOf (getD ops 1 0)) (valueAt ops 2)))
-operandsOf fields at ops testv-op = operands at ops 3 (ltb (getD ops 0 0) fields && ltb (getD ops 1 0) 6 && ltb (getD ops 2 0) 8) (CLAUSE (TESTV (getD ops 0 0) (operatorOf (getD ops 1 0)) (getD ops 2 0)))
+operandsOf fields at ops test-op =
+    operands at ops 6 (ltb (getD ops 0 0) fields && ltb (getD ops 1 0) 6) (CLAUSE (TEST (getD ops 0 0) (operatorOf (getD ops 1 0)) (valueAt ops 2)))
+operandsOf fields at ops testv-op =
+    operands at ops 3 (ltb (getD ops 0 0) fields && ltb (getD ops 1 0) 6 && ltb (getD ops 2 0) 8)
+    (CLAUSE (TESTV (getD ops 0 0) (operatorOf (getD ops 1 0)) (getD ops 2 0)))
 operandsOf fields at ops bind-op = operands at ops 2 (ltb (getD ops 0 0) fields && ltb (getD ops 1 0) 8) (CLAUSE (BIND (getD ops 0 0) (getD ops 1 0)))
 operandsOf fields at ops guard-op = guardOf (readExpr 8 31 (at + 1) ops)
 operandsOf fields at ops tied-op = operands at ops 1 (ltb (getD ops 0 0) 8) (TIED (getD ops 0 0))
@@ -175,27 +198,37 @@ unfoldable pub next : ℕ → Summary → ℕ → List ℕ → Next
 next fields s at [] = bad (CutShort InFormula at)
 next fields s at (b ∷ ops) = cond (allowed s (opcode b)) (cond (room s (opcode b)) (operandsOf fields at ops (opcode b)) (bad (Surplus InFormula at))) (bad (Foreign InFormula at))
 
--- the commands read, gathered into a formula from the last one on: clauses and guard of the step that will stand before them, steps of the state that will, states, tied variables
-pub record Gathered : Type 0 where
+-- the commands read, assembled into a formula from the last one on: clauses and guard of the step that will stand before them, steps of the state that will, states, tied variables
+pub record Assembly : Type 0 where
   pub clauses : List Clause
   pub guard : Option Expr
   pub steps : List Step
   pub states : List State
   pub tied : List ℕ
 
-abbrev pub gather : Command → Gathered → Gathered
-gather (TIED v) g = record { clauses = g .clauses; guard = g .guard; steps = g .steps; states = g .states; tied = v ∷ g .tied }
-gather (STATE k) g = record { clauses = []; guard = none; steps = []; states = record { kind = k; steps = g .steps } ∷ g .states; tied = g .tied }
-gather (STEP t) g = record { clauses = []; guard = none; steps = record { target = t; clauses = g .clauses; guard = g .guard } ∷ g .steps; states = g .states; tied = g .tied }
-gather (CLAUSE c) g = record { clauses = c ∷ g .clauses; guard = g .guard; steps = g .steps; states = g .states; tied = g .tied }
-gather (GUARD e) g = record { clauses = g .clauses; guard = some e; steps = g .steps; states = g .states; tied = g .tied }
+-- one more command in front
+abbrev pub inFront : Command → Assembly → Assembly
+inFront (TIED v) g = record { clauses = g .clauses; guard = g .guard; steps = g .steps; states = g .states; tied = v ∷ g .tied }
+inFront (STATE k) g = record { clauses = []; guard = none; steps = []; states = record { kind = k; steps = g .steps } ∷ g .states; tied = g .tied }
+inFront (STEP t) g =
+    record {
+      clauses = [];
+      guard = none;
+      steps = record { target = t; clauses = g .clauses; guard = g .guard } ∷ g .steps;
+      states = g .states;
+      tied = g .tied;
+    }
+inFront (CLAUSE c) g = record { clauses = c ∷ g .clauses; guard = g .guard; steps = g .steps; states = g .states; tied = g .tied }
+inFront (GUARD e) g = record { clauses = g .clauses; guard = some e; steps = g .steps; states = g .states; tied = g .tied }
 
-unfoldable pub gatherAll : List Command → Gathered
-gatherAll [] = record { clauses = []; guard = none; steps = []; states = []; tied = [] }
-gatherAll (c ∷ cs) = gather c (gatherAll cs)
+-- all of them
+unfoldable pub assembly : List Command → Assembly
+assembly [] = record { clauses = []; guard = none; steps = []; states = []; tied = [] }
+assembly (c ∷ cs) = inFront c (assembly cs)
 
+-- the formula of the commands
 unfoldable pub assemble : List Command → Formula
-assemble cs = record { tied = gatherAll cs .tied; states = gatherAll cs .states }
+assemble cs = record { tied = assembly cs .tied; states = assembly cs .states }
 
 -- the first of two places
 abbrev pub orElse : Option ℕ → Option ℕ → Option ℕ
@@ -207,20 +240,26 @@ abbrev pub when : Bool → ℕ → Option ℕ
 when true at = some at
 when false at = none
 
--- the place of the first VAR or COUNT of an expression that is bad
-unfoldable pub firstLeaf : (ℕ → Bool) → (ℕ → Bool) → ℕ → Expr → Option ℕ
-firstLeaf p q at (CONST v) = none
-firstLeaf p q at (VAR v) = when (p v) at
-firstLeaf p q at (COUNT s) = when (q s) at
-firstLeaf p q at (ADD a b) = orElse (firstLeaf p q (at + 1) a) (firstLeaf p q (at + 1 + length (encodeExpr a)) b)
-firstLeaf p q at (SUB a b) = orElse (firstLeaf p q (at + 1) a) (firstLeaf p q (at + 1 + length (encodeExpr a)) b)
-firstLeaf p q at (LESS a b) = orElse (firstLeaf p q (at + 1) a) (firstLeaf p q (at + 1 + length (encodeExpr a)) b)
-firstLeaf p q at (ATMOST a b) = orElse (firstLeaf p q (at + 1) a) (firstLeaf p q (at + 1 + length (encodeExpr a)) b)
-firstLeaf p q at (EQUAL a b) = orElse (firstLeaf p q (at + 1) a) (firstLeaf p q (at + 1 + length (encodeExpr a)) b)
-firstLeaf p q at (NOT a) = firstLeaf p q (at + 1) a
-firstLeaf p q at (AND a b) = orElse (firstLeaf p q (at + 1) a) (firstLeaf p q (at + 1 + length (encodeExpr a)) b)
-firstLeaf p q at (OR a b) = orElse (firstLeaf p q (at + 1) a) (firstLeaf p q (at + 1 + length (encodeExpr a)) b)
-firstLeaf p q at (IF c a b) = orElse (firstLeaf p q (at + 1) c) (orElse (firstLeaf p q (at + 1 + length (encodeExpr c)) a) (firstLeaf p q (at + 1 + length (encodeExpr c) + length (encodeExpr a)) b))
+-- the place of the first leaf of an expression that is bad
+unfoldable pub firstLeaf : (Leaf → Bool) → ℕ → Expr → Option ℕ
+firstLeaf p at (LEAF l) = when (p l) at
+firstLeaf p at (ADD a b) = orElse (firstLeaf p (at + 1) a) (firstLeaf p (at + 1 + length (encodeExpr a)) b)
+firstLeaf p at (SUB a b) = orElse (firstLeaf p (at + 1) a) (firstLeaf p (at + 1 + length (encodeExpr a)) b)
+firstLeaf p at (LESS a b) = orElse (firstLeaf p (at + 1) a) (firstLeaf p (at + 1 + length (encodeExpr a)) b)
+firstLeaf p at (ATMOST a b) = orElse (firstLeaf p (at + 1) a) (firstLeaf p (at + 1 + length (encodeExpr a)) b)
+firstLeaf p at (EQUAL a b) = orElse (firstLeaf p (at + 1) a) (firstLeaf p (at + 1 + length (encodeExpr a)) b)
+firstLeaf p at (NOT a) = firstLeaf p (at + 1) a
+firstLeaf p at (AND a b) = orElse (firstLeaf p (at + 1) a) (firstLeaf p (at + 1 + length (encodeExpr a)) b)
+firstLeaf p at (OR a b) = orElse (firstLeaf p (at + 1) a) (firstLeaf p (at + 1 + length (encodeExpr a)) b)
+firstLeaf p at (IF c a b) =
+    orElse (firstLeaf p (at + 1) c)
+    (orElse (firstLeaf p (at + 1 + length (encodeExpr c)) a) (firstLeaf p (at + 1 + length (encodeExpr c) + length (encodeExpr a)) b))
+
+-- "COUNT naming an absent state", of `states` states
+abbrev pub absentLeaf : ℕ → Leaf → Bool
+absentLeaf states (CONST x) = false
+absentLeaf states (VAR v) = false
+absentLeaf states (COUNT s) = not (ltb s states)
 
 -- "the first STEP or COUNT naming an absent state", of `states` states: in one command, and in the commands from offset `at` on
 abbrev pub absentIn : ℕ → ℕ → Command → Option ℕ
@@ -228,7 +267,7 @@ absentIn states at (TIED v) = none
 absentIn states at (STATE k) = none
 absentIn states at (STEP t) = when (not (ltb t states)) at
 absentIn states at (CLAUSE c) = none
-absentIn states at (GUARD e) = firstLeaf (λ v. false) (λ s. not (ltb s states)) (at + 1) e
+absentIn states at (GUARD e) = firstLeaf (absentLeaf states) (at + 1) e
 
 unfoldable pub firstAbsent : ℕ → ℕ → List Command → Option ℕ
 firstAbsent states at [] = none
@@ -249,6 +288,12 @@ ownAfter own (STEP t) = []
 ownAfter own (CLAUSE c) = own ++ (c ∷ [])
 ownAfter own (GUARD e) = own
 
+-- "a TESTV or VAR as above": a leaf, and a command
+abbrev pub unboundLeaf : (ℕ → ℕ → Bool) → ℕ → List Clause → Leaf → Bool
+unboundLeaf open-at seen own (CONST x) = false
+unboundLeaf open-at seen own (VAR v) = open-at v (seen - 1) && not (binds v own)
+unboundLeaf open-at seen own (COUNT s) = false
+
 abbrev pub unboundIn : (ℕ → ℕ → Bool) → ℕ → List Clause → ℕ → Command → Option ℕ
 unboundIn open-at seen own at (TIED v) = none
 unboundIn open-at seen own at (STATE k) = none
@@ -256,11 +301,12 @@ unboundIn open-at seen own at (STEP t) = none
 unboundIn open-at seen own at (CLAUSE (TEST f o x)) = none
 unboundIn open-at seen own at (CLAUSE (TESTV f o v)) = when (open-at v (seen - 1)) at
 unboundIn open-at seen own at (CLAUSE (BIND f v)) = none
-unboundIn open-at seen own at (GUARD e) = firstLeaf (λ v. open-at v (seen - 1) && not (binds v own)) (λ s. false) (at + 1) e
+unboundIn open-at seen own at (GUARD e) = firstLeaf (unboundLeaf open-at seen own) (at + 1) e
 
 unfoldable pub firstUnbound : (ℕ → ℕ → Bool) → ℕ → List Clause → ℕ → List Command → Option ℕ
 firstUnbound open-at seen own at [] = none
-firstUnbound open-at seen own at (c ∷ cs) = orElse (unboundIn open-at seen own at c) (firstUnbound open-at (seenAfter seen c) (ownAfter own c) (at + length (encodeCommand c)) cs)
+firstUnbound open-at seen own at (c ∷ cs) =
+    orElse (unboundIn open-at seen own at c) (firstUnbound open-at (seenAfter seen c) (ownAfter own c) (at + length (encodeCommand c)) cs)
 
 -- a refusal where there is a place for it
 abbrev pub refusedAt : Option ℕ → (ℕ → Refusal) → Reading → Reading
@@ -269,7 +315,9 @@ refusedAt (some p) r go-on = refused (r p)
 
 -- "then 3 for the first STEP or COUNT naming an absent state; then 7; then 8"
 unfoldable pub judge : Formula → Reading
-judge f = refusedAt (firstAbsent (length (f .states)) 0 (commands f)) (Value InFormula) (cond (deadStart (f .states)) (refused DeadStart) (refusedAt (firstUnbound (isUnbound f) 0 [] 0 (commands f)) UnboundAt (accepted f)))
+judge f =
+    refusedAt (firstAbsent (length (f .states)) 0 (commands f)) (Value InFormula)
+    (cond (deadStart (f .states)) (refused DeadStart) (refusedAt (firstUnbound (isUnbound f) 0 [] 0 (commands f)) UnboundAt (accepted f)))
 
 -- "After END: 5": the bytes behind END, which begin at `at`
 unfoldable pub afterEnd : Formula → ℕ → List ℕ → Reading

@@ -1,4 +1,5 @@
--- "A variable is unbound at a TESTV if some path of steps from state 0 to that step's state binds it nowhere": the paths themselves, and the states that such paths reach, computed.
+-- "A variable is unbound at a TESTV if some path of steps from state 0 to that step's state binds it nowhere": the paths themselves, and the states
+-- that such paths reach, computed.
 use Prim.Native.Nat.{ℕ, zero, suc}
 use mathlib.Core.Path.{_≡_}
 use mathlib.Core.Bool.{Bool, true, false, cond, not, _&&_, _||_}

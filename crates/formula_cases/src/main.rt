@@ -1,6 +1,6 @@
 // Runs the formula reader on the bench's formulas F and G, cut at every byte and with every byte set to 0, 1, 2, 17 and 255, against
 // a log of two fields, and prints each answer: the file, number and place of a refusal, or an accepted formula's number of states.
-use formula_reader::Verdict;
+use formula_code::Verdict;
 use libc::STDOUT_FILENO;
 
 // A space and a number.
@@ -11,7 +11,7 @@ fn put(n: usize) {
 
 // What the reader answers, on one line.
 fn show(f: &[u8]) {
-    let r = formula_reader::read_formula(f, 2);
+    let r = formula_code::read_formula(f, 2);
     let verdict = r.verdict;
     match verdict {
         Verdict::Accepted => {

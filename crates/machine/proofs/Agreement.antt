@@ -8,7 +8,7 @@ use mathlib.Core.Option.{Option, some}
 use native.Mathlib.Omega.{arith}
 use lib.Dec.{eqb}
 use borrow.Author.Tests.{eqb-true, eqb-false, eq-eqb}
-use Rattle.event_log.specs.Log.{Event}
+use Rattle.event_log.specs.Log.{Values}
 use Rattle.formula.specs.Formula.{Operator, Clause, TEST, TESTV, BIND, Step}
 use Rattle.machine.specs.Configuration.{Config, Valid}
 use Rattle.machine.specs.Guard.{guardHolds}
@@ -23,14 +23,14 @@ Has ks k = List·Memᴰ k ks
 
 -- "A step fires on an event if every TEST holds, every TESTV holds against values held before, every BIND agrees with a value
 -- held before or bound by another BIND of the step, and the guard is nonzero"
-pub record Firing (c : Config) (s : Step) (e : Event) : Type 0 where
+pub record Firing (c : Config) (s : Step) (e : Values) : Type 0 where
   pub tests : (f : ℕ) (o : Operator) (x : ℕ) → List·Memᴰ (TEST f o x) (s .clauses) → holds o (field e f) x ≡ true
   pub testvs : (f : ℕ) (o : Operator) (v : ℕ) → List·Memᴰ (TESTV f o v) (s .clauses) → holds o (field e f) (valueOf c v) ≡ true
   pub with-held : (f v : ℕ) → List·Memᴰ (BIND f v) (s .clauses) → isHeld c v ≡ true → field e f ≡ valueOf c v
   pub with-bound : (f g v : ℕ) → List·Memᴰ (BIND f v) (s .clauses) → List·Memᴰ (BIND g v) (s .clauses) → field e f ≡ field e g
-  pub guard : guardHolds ((leave c s e) .values) ((leave c s e) .counters) (s .guard) ≡ true
+  pub guard : guardHolds (leave c s e) (s .guard) ≡ true
 
-all-each : (c d : Config) (e : Event) (ks : List Clause) → allPass c d e ks ≡ true → (k : Clause) → Has ks k → passes c d e k ≡ true
+all-each : (c d : Config) (e : Values) (ks : List Clause) → allPass c d e ks ≡ true → (k : Clause) → Has ks k → passes c d e k ≡ true
 all-each c d e [] h k m = absurd (List·Memᴰ·not-nil m)
 all-each c d e (x ∷ ks) h k m = go (all-each c d e ks (and-right (passes c d e x) (allPass c d e ks) h) k) (List·Memᴰ·cases-cons m)
   where
@@ -38,7 +38,7 @@ all-each c d e (x ∷ ks) h k m = go (all-each c d e ks (and-right (passes c d e
     go ih (inl q) = rw q (and-left (passes c d e x) (allPass c d e ks) h)
     go ih (inr n) = ih n
 
-each-all : (c d : Config) (e : Event) (ks : List Clause) → ((k : Clause) → Has ks k → passes c d e k ≡ true) → allPass c d e ks ≡ true
+each-all : (c d : Config) (e : Values) (ks : List Clause) → ((k : Clause) → Has ks k → passes c d e k ≡ true) → allPass c d e ks ≡ true
 each-all c d e [] h = refl
 each-all c d e (x ∷ ks) h = and-true (passes c d e x) (allPass c d e ks) (h x (List·Memᴰ·head refl)) (each-all c d e ks (λ k m. h k (List·Memᴰ·tail m)))
 
@@ -62,8 +62,12 @@ behind k ks f v ne m = go (List·Memᴰ·cases-cons m)
 
 first-of : (ks : List Clause) (f v : ℕ) → Has ks (BIND f v) → First ks v
 first-of [] f v m = absurd (List·Memᴰ·not-nil m)
-first-of (TEST g o x ∷ ks) f v m = past (TEST g o x) ks v refl (first-of ks f v (behind (TEST g o x) ks f v (λ (q : BIND f v ≡ TEST g o x). let z : _≡_ {A = ℕ} 0 1 = cc in omega arith) m))
-first-of (TESTV g o u ∷ ks) f v m = past (TESTV g o u) ks v refl (first-of ks f v (behind (TESTV g o u) ks f v (λ (q : BIND f v ≡ TESTV g o u). let z : _≡_ {A = ℕ} 0 1 = cc in omega arith) m))
+first-of (TEST g o x ∷ ks) f v m =
+    past (TEST g o x) ks v refl
+    (first-of ks f v (behind (TEST g o x) ks f v (λ (q : BIND f v ≡ TEST g o x). let z : _≡_ {A = ℕ} 0 1 = cc in omega arith) m))
+first-of (TESTV g o u ∷ ks) f v m =
+    past (TESTV g o u) ks v refl
+    (first-of ks f v (behind (TESTV g o u) ks f v (λ (q : BIND f v ≡ TESTV g o u). let z : _≡_ {A = ℕ} 0 1 = cc in omega arith) m))
 first-of (BIND g u ∷ ks) f v m = go (first-of ks f v) (eqb u v) refl
   where
     go : (Has ks (BIND f v) → First ks v) → (b : Bool) → eqb u v ≡ b → First (BIND g u ∷ ks) v
@@ -73,24 +77,26 @@ first-of (BIND g u ∷ ks) f v m = go (first-of ks f v) (eqb u v) refl
         past (BIND g u) ks v (rw q) (ih (behind (BIND g u) ks f v (λ (p : BIND f v ≡ BIND g u). let r : u ≡ v = cc in ne r) m))
 
 -- A step that fires meets every condition of the paper.
-pub fires-means : (c : Config) (s : Step) (e : Event) → fires c s e ≡ true → Firing c s e
+pub fires-means : (c : Config) (s : Step) (e : Values) → fires c s e ≡ true → Firing c s e
 unfolding fires leave
 fires-means c s e h =
     let d = leave c s e in
-    let each = all-each c d e (s .clauses) (and-left (allPass c d e (s .clauses)) (guardHolds (d .values) (d .counters) (s .guard)) h) in
-    let bound : (f v : ℕ) → Has (s .clauses) (BIND f v) → field e f ≡ valueOf (bindAll c e (s .clauses)) v = λ f v m. eqb-true (field e f) (valueOf d v) (each (BIND f v) m) in
+    let each = all-each c d e (s .clauses) (and-left (allPass c d e (s .clauses)) (guardHolds d (s .guard)) h) in
+    let bound : (f v : ℕ) → Has (s .clauses) (BIND f v) → field e f ≡ valueOf (bindAll c e (s .clauses)) v =
+    λ f v m. eqb-true (field e f) (valueOf d v) (each (BIND f v) m) in
     record {
       tests = λ f o x m. each (TEST f o x) m;
       testvs = λ f o v m. each (TESTV f o v) m;
       with-held = λ f v m t. bound f v m ∙ bind-keeps c e (s .clauses) v t .value-kept;
       with-bound = λ f g v m n. bound f v m ∙ sym (bound g v n);
-      guard = and-right (allPass c d e (s .clauses)) (guardHolds (d .values) (d .counters) (s .guard)) h;
+      guard = and-right (allPass c d e (s .clauses)) (guardHolds d (s .guard)) h;
     }
 
 -- A step whose BINDs name variables, and that meets every condition of the paper, fires.
-pub means-fires : (states : ℕ) (c : Config) (s : Step) (e : Event) → Valid states c → ((f v : ℕ) → List·Memᴰ (BIND f v) (s .clauses) → v < 8) → Firing c s e → fires c s e ≡ true
+pub means-fires : (states : ℕ) (c : Config) (s : Step) (e : Values) → Valid states c → ((f v : ℕ) → List·Memᴰ (BIND f v) (s .clauses) → v < 8)
+    → Firing c s e → fires c s e ≡ true
 unfolding fires leave
-means-fires states c s e valid below h = and-true (allPass c d e (s .clauses)) (guardHolds (d .values) (d .counters) (s .guard)) (each-all c d e (s .clauses) pass) (h .guard)
+means-fires states c s e valid below h = and-true (allPass c d e (s .clauses)) (guardHolds d (s .guard)) (each-all c d e (s .clauses) pass) (h .guard)
   where
     d : Config
     d = leave c s e
@@ -100,7 +106,8 @@ means-fires states c s e valid below h = and-true (allPass c d e (s .clauses)) (
     agrees f v m false t =
         let r = first-of (s .clauses) f v m in
         let k = below f v m in
-        let p : valueOf (bindAll c e (s .clauses)) v ≡ taken e (valueOf c v) (firstBind (s .clauses) v) = bind-first c e (s .clauses) v (omega (arith, valid .held-8)) (omega (arith, valid .values-8)) t in
+        let p : valueOf (bindAll c e (s .clauses)) v ≡ taken e (valueOf c v) (firstBind (s .clauses) v) =
+        bind-first c e (s .clauses) v (omega (arith, valid .held-8)) (omega (arith, valid .values-8)) t in
         h .with-bound f (r .from) v m (r .there) ∙ sym (p ∙ ap (λ (o : Option ℕ). taken e (valueOf c v) o) (r .found))
 
     pass : (k : Clause) → Has (s .clauses) k → passes c d e k ≡ true

@@ -39,7 +39,9 @@ same-equal c d h =
     let p₄ = sameList eqb (c .counters) (d .counters) in
     let h₃ = and-left (p₁ && p₂ && p₃) p₄ h in
     let h₂ = and-left (p₁ && p₂) p₃ h₃ in
-    equal-parts c d (eqb-true (c .state) (d .state) (and-left p₁ p₂ h₂)) (list-equal Bool·beq bool-equal (c .held) (d .held) (and-right p₁ p₂ h₂)) (list-equal eqb eqb-true (c .values) (d .values) (and-right (p₁ && p₂) p₃ h₃)) (list-equal eqb eqb-true (c .counters) (d .counters) (and-right (p₁ && p₂ && p₃) p₄ h))
+    equal-parts c d (eqb-true (c .state) (d .state) (and-left p₁ p₂ h₂)) (list-equal Bool·beq bool-equal (c .held) (d .held) (and-right p₁ p₂ h₂))
+    (list-equal eqb eqb-true (c .values) (d .values) (and-right (p₁ && p₂) p₃ h₃))
+    (list-equal eqb eqb-true (c .counters) (d .counters) (and-right (p₁ && p₂ && p₃) p₄ h))
 
 pub equal-same : (c : Config) → same c c ≡ true
 unfolding same

@@ -1,4 +1,4 @@
--- Worked examples of document 01, computed by the definitions.
+-- Worked examples of one step in the words of the paper, computed by the definitions.
 use Prim.Native.Nat.{ℕ, zero, suc, _≤_, _<_}
 use mathlib.Core.Path.{_≡_, refl}
 use mathlib.Core.Bool.{true, false}
@@ -6,30 +6,23 @@ use mathlib.Core.List.{List, [], _∷_}
 use mathlib.Core.Option.{none, some}
 use native.Mathlib.Omega.{arith}
 use lib.ListN.{getD, replicate}
-use Rattle.event_log.specs.Log.{plain, rising as risingField, Log}
-use Rattle.formula.specs.Formula.{equal, less, atmost, Clause, TEST, TESTV, BIND, Step, ordinary, accept, Formula, Expr, CONST, VAR, COUNT, ADD, SUB, LESS, EQUAL, OR, IF}
+use Rattle.event_log.specs.Log.{plain, rising as risingField, Log, eventAt}
+use Rattle.event_log.specs.Correct as LogCorrect
+use Rattle.formula.specs.Formula.{equal, less, atmost, Clause, TEST, TESTV, BIND, Step, ordinary, accept, Formula, CONST, VAR, COUNT, Expr, LEAF}
+use Rattle.formula.specs.Formula.{LESS, EQUAL, OR, IF}
 use Rattle.formula.specs.Unbound.{stepsOf}
 use Rattle.formula.specs.Lookup.{stepAt}
 use Rattle.machine.specs.Configuration.{Config, start}
 use Rattle.machine.specs.Guard.{value}
 use Rattle.machine.specs.Firing.{hold, leave, fires, fire}
 use Rattle.machine.specs.Expiry.{rising, falling, expired}
-use Rattle.machine.specs.Machine.{eventAt, fireAt, expiredAt, final, accepting}
+use Rattle.machine.specs.Machine.{fireAt, expiredAt, final, accepting}
 use Rattle.machine.proofs.Machine.{Premises}
 
--- M11: "ADD of 4294967295 and 1 is 4294967295; SUB of 3 and 5 is 0"
-pub m11-add : (values counters : List ℕ) → value values counters (ADD (CONST 4294967295) (CONST 1)) ≡ 4294967295
-unfolding value
-m11-add values counters = refl
-
-pub m11-sub : (values counters : List ℕ) → value values counters (SUB (CONST 3) (CONST 5)) ≡ 0
-unfolding value
-m11-sub values counters = refl
-
 -- "LESS to OR give 0 or 1"
-pub or-gives-one : (values counters : List ℕ) → value values counters (OR (CONST 5) (CONST 7)) ≡ 1
+pub or-gives-one : (c : Config) → value c (OR (LEAF (CONST 5)) (LEAF (CONST 7))) ≡ 1
 unfolding value
-or-gives-one values counters = refl
+or-gives-one c = refl
 
 -- a step to state t with these clauses and no guard
 abbrev bare : ℕ → List Clause → Step
@@ -90,40 +83,40 @@ unfolding fire fires leave hold
 held-differs s counters = refl
 
 -- the guard reads the values after binding, and the counters after adding one to the state being left
-pub guard-after-binding : fires start (guarded 1 (BIND 0 0 ∷ []) (EQUAL (VAR 0) (CONST 7))) (7 ∷ []) ≡ true
+pub guard-after-binding : fires start (guarded 1 (BIND 0 0 ∷ []) (EQUAL (LEAF (VAR 0)) (LEAF (CONST 7)))) (7 ∷ []) ≡ true
 unfolding fires leave hold start value
 guard-after-binding = refl
 
-pub left-counted : fires start (guarded 1 [] (EQUAL (COUNT 0) (CONST 1))) (7 ∷ []) ≡ true
+pub left-counted : fires start (guarded 1 [] (EQUAL (LEAF (COUNT 0)) (LEAF (CONST 1)))) (7 ∷ []) ≡ true
 unfolding fires leave hold start value
 left-counted = refl
 
-pub entered-not-counted : fires start (guarded 1 [] (COUNT 1)) (7 ∷ []) ≡ false
+pub entered-not-counted : fires start (guarded 1 [] (LEAF (COUNT 1))) (7 ∷ []) ≡ false
 unfolding fires leave hold start value
 entered-not-counted = refl
 
 -- falling includes both: a guard of counters and constants that is 0 with the step's own counter makes the step hopeless at once
-pub own-counter : expired (risingField ∷ []) start (guarded 1 [] (LESS (COUNT 0) (CONST 1))) (7 ∷ []) ≡ true
+pub own-counter : expired (risingField ∷ []) start (guarded 1 [] (LESS (LEAF (COUNT 0)) (LEAF (CONST 1)))) (7 ∷ []) ≡ true
 unfolding expired leave hold start value falling rising
 own-counter = refl
 
 -- time less than 10 by a guard, on a variable bound to the rising time: hopeless after 10, not after 9
-pub guard-late : expired (risingField ∷ []) start (guarded 1 (BIND 0 0 ∷ []) (LESS (VAR 0) (CONST 10))) (10 ∷ []) ≡ true
+pub guard-late : expired (risingField ∷ []) start (guarded 1 (BIND 0 0 ∷ []) (LESS (LEAF (VAR 0)) (LEAF (CONST 10)))) (10 ∷ []) ≡ true
 unfolding expired leave hold start value falling rising
 guard-late = refl
 
-pub guard-not-late : expired (risingField ∷ []) start (guarded 1 (BIND 0 0 ∷ []) (LESS (VAR 0) (CONST 10))) (9 ∷ []) ≡ false
+pub guard-not-late : expired (risingField ∷ []) start (guarded 1 (BIND 0 0 ∷ []) (LESS (LEAF (VAR 0)) (LEAF (CONST 10)))) (9 ∷ []) ≡ false
 unfolding expired leave hold start value falling rising
 guard-not-late = refl
 
 -- a variable not held rises by the step's first BIND of it only
-pub first-bind-plain : rising (risingField ∷ plain ∷ []) start (BIND 1 0 ∷ BIND 0 0 ∷ []) (VAR 0) ≡ false
+pub first-bind-plain : rising (risingField ∷ plain ∷ []) start (BIND 1 0 ∷ BIND 0 0 ∷ []) (LEAF (VAR 0)) ≡ false
 unfolding rising start
 first-bind-plain = refl
 
 -- IF with a condition that is not both is not falling: its step is not hopeless at 9 though its guard is 0, and fires at 10
 abbrev late-enough : Step
-late-enough = guarded 1 (BIND 0 0 ∷ []) (IF (LESS (VAR 0) (CONST 10)) (CONST 0) (CONST 1))
+late-enough = guarded 1 (BIND 0 0 ∷ []) (IF (LESS (LEAF (VAR 0)) (LEAF (CONST 10))) (LEAF (CONST 0)) (LEAF (CONST 1)))
 
 pub if-not-expired : expired (risingField ∷ []) start late-enough (9 ∷ []) ≡ false
 unfolding expired leave hold start value falling rising
@@ -135,7 +128,7 @@ if-fires-later = refl
 
 -- the bench's log L and formula F: time and code, trip and open
 abbrev pub L : Log
-L = record { fields = risingField ∷ plain ∷ []; events = (500 ∷ 1 ∷ []) ∷ (500 ∷ 2 ∷ []) ∷ [] }
+L = record { fields = risingField ∷ plain ∷ []; events = record { values = 500 ∷ 1 ∷ [] } ∷ record { values = 500 ∷ 2 ∷ [] } ∷ [] }
 
 abbrev pub F : Formula
 F = record {
@@ -169,10 +162,17 @@ no-second-step-expired = refl
 
 -- what the machine's laws need holds of L and F
 pub bench-premises : Premises L F
-unfolding final start
+unfolding final start LogCorrect.value eventAt
 bench-premises = record {
-  never-falls = rise;
-  values-fit = omega arith;
+  recorded =
+      record {
+        some-field = omega arith;
+        most-fields = omega arith;
+        most-events = omega arith;
+        one-per-field = omega arith;
+        values-fit = omega arith;
+        never-falls = rise;
+      };
   some-state = omega arith;
   most-states = omega arith;
   targets = omega arith;
@@ -182,7 +182,7 @@ bench-premises = record {
     kinds-differ : plain ≡ risingField → ⊥
     kinds-differ q = let z : _≡_ {A = ℕ} 0 1 = cc in omega arith
 
-    rise : (n k : ℕ) → suc n < 2 → getD (L .fields) k plain ≡ risingField → getD (getD (L .events) n []) k 0 ≤ getD (getD (L .events) (suc n) []) k 0
+    rise : (n k : ℕ) → suc n < 2 → getD (L .fields) k plain ≡ risingField → LogCorrect.value L n k ≤ LogCorrect.value L (suc n) k
     rise (suc n) k h r = absurd (omega arith)
     rise zero zero h r = omega arith
     rise zero (suc zero) h r = absurd (kinds-differ r)

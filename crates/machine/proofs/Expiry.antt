@@ -5,25 +5,26 @@ use mathlib.Core.Bool.{Bool, true, false, not, _&&_, false≢true}
 use mathlib.Core.List.{List, [], _∷_}
 use mathlib.Core.Option.{Option, none, some}
 use native.Mathlib.Omega.{arith}
+use native.Mathlib.Nat.{le-refl}
 use native.Mathlib.Decide.{decLt}
 use lib.ListN.{length, List·getD-eq-default}
 use lib.Dec.{ltb, leb}
 use borrow.Author.Tests.{ltb-false, leb-false, le-ltb, lt-leb, not-true}
-use Rattle.event_log.specs.Log.{Kind, Event}
-use Rattle.formula.specs.Formula.{Operator, equal, unequal, less, greater, atmost, atleast, Clause, TEST, TESTV, BIND, Step, Expr, VAR}
-use Rattle.machine.specs.Configuration.{Config, Valid, addOne}
-use Rattle.machine.specs.Guard.{value, guardHolds}
+use Rattle.event_log.specs.Log.{Kind, Values}
+use Rattle.formula.specs.Formula.{Operator, equal, unequal, less, greater, atmost, atleast, Clause, TEST, TESTV, BIND, Step, Leaf, CONST, VAR, COUNT, Expr}
+use Rattle.machine.specs.Configuration.{Config, Valid}
+use Rattle.machine.specs.Guard.{leaf, value, guardHolds}
 use Rattle.machine.specs.Firing.{holds, field, valueOf, isHeld, bindAll, leave, passes, allPass, fires, fire}
-use Rattle.machine.specs.Expiry.{rises, firstBind, fieldRises, rising, missed, pastDue, anyPastDue, guardFalls, expired}
+use Rattle.machine.specs.Expiry.{rises, firstBind, fieldRises, leafRises, leafFalls, missed, pastDue, anyPastDue, guardFalls, expired}
 use Rattle.base.proofs.Tests.{and-left, and-right, and-keep, and-false, or-keep, or-false, not-true-false}
 use Rattle.machine.proofs.Binding.{bind-keeps, bind-shape, bind-first, taken}
 use Rattle.machine.proofs.Trend.{Trend, trend, truth-down}
 
 -- every rising field is at least as large in y as in x
-abbrev pub Grows : List Kind → Event → Event → Type 0
-Grows kinds x y = (f : ℕ) → rises kinds f ≡ true → field x f ≤ field y f
+abbrev pub Grows : List Kind → Values → Values → Type 0
+Grows fields x y = (f : ℕ) → rises fields f ≡ true → field x f ≤ field y f
 
-module _ (kinds : List Kind) (x y : Event) (grows : Grows kinds x y) where
+module _ (fields : List Kind) (x y : Values) (grows : Grows fields x y) where
   missed-stays : (o : Operator) (a b z : ℕ) → a ≤ b → missed o a z ≡ true → missed o b z ≡ true
   missed-stays equal a b z p h = h
   missed-stays unequal a b z p h = h
@@ -32,29 +33,36 @@ module _ (kinds : List Kind) (x y : Event) (grows : Grows kinds x y) where
   missed-stays atmost a b z p h = let k = leb-false a z (not-true (leb a z) h) in ap not (lt-leb b z (omega arith))
   missed-stays atleast a b z p h = h
 
-  past-due-stays : (c : Config) (k : Clause) → pastDue kinds c x k ≡ true → pastDue kinds c y k ≡ true
-  past-due-stays c (TEST f o z) h = and-keep (rises kinds f) (missed o (field x f) z) (missed o (field y f) z) (λ r. missed-stays o (field x f) (field y f) z (grows f r)) h
-  past-due-stays c (TESTV f o v) h = and-keep (rises kinds f) (missed o (field x f) (valueOf c v)) (missed o (field y f) (valueOf c v)) (λ r. missed-stays o (field x f) (field y f) (valueOf c v) (grows f r)) h
+  past-due-stays : (c : Config) (k : Clause) → pastDue fields c x k ≡ true → pastDue fields c y k ≡ true
+  past-due-stays c (TEST f o z) h =
+      and-keep (rises fields f) (missed o (field x f) z) (missed o (field y f) z) (λ r. missed-stays o (field x f) (field y f) z (grows f r)) h
+  past-due-stays c (TESTV f o v) h =
+      and-keep (rises fields f) (missed o (field x f) (valueOf c v)) (missed o (field y f) (valueOf c v))
+      (λ r. missed-stays o (field x f) (field y f) (valueOf c v) (grows f r)) h
   past-due-stays c (BIND f v) h = h
 
-  any-past-due-stays : (c : Config) (ks : List Clause) → anyPastDue kinds c x ks ≡ true → anyPastDue kinds c y ks ≡ true
+  any-past-due-stays : (c : Config) (ks : List Clause) → anyPastDue fields c x ks ≡ true → anyPastDue fields c y ks ≡ true
   any-past-due-stays c [] h = h
-  any-past-due-stays c (k ∷ ks) h = or-keep (pastDue kinds c x k) (anyPastDue kinds c x ks) (pastDue kinds c y k) (anyPastDue kinds c y ks) (past-due-stays c k) (any-past-due-stays c ks) h
+  any-past-due-stays c (k ∷ ks) h =
+      or-keep (pastDue fields c x k) (anyPastDue fields c x ks) (pastDue fields c y k) (anyPastDue fields c y ks) (past-due-stays c k)
+      (any-past-due-stays c ks) h
 
   -- the values after binding, on x and on y
-  module _ (states : ℕ) (c : Config) (valid : Valid states c) (ks : List Clause) where
-    taken-grows : (old : ℕ) (o : Option ℕ) → fieldRises kinds o ≡ true → taken x old o ≤ taken y old o
+  module _ (states : ℕ) (c : Config) (valid : Valid states c) (s : Step) where
+    abbrev ks : List Clause
+    ks = s .clauses
+
+    taken-grows : (old : ℕ) (o : Option ℕ) → fieldRises fields o ≡ true → taken x old o ≤ taken y old o
     taken-grows old none h = absurd (false≢true h)
     taken-grows old (some f) h = grows f h
 
     held-stays : (v : ℕ) → isHeld c v ≡ true → valueOf (bindAll c x ks) v ≡ valueOf (bindAll c y ks) v
     held-stays v h = bind-keeps c x ks v h .value-kept ∙ sym (bind-keeps c y ks v h .value-kept)
 
-    past-all : (e : Event) (v : ℕ) → 8 ≤ v → valueOf (bindAll c e ks) v ≡ 0
+    past-all : (e : Values) (v : ℕ) → 8 ≤ v → valueOf (bindAll c e ks) v ≡ 0
     past-all e v h = List·getD-eq-default ((bindAll c e ks) .values) 0 (omega (arith, bind-shape c e ks .values-length, valid .values-8))
 
-    variable-grows : (v : ℕ) → rising kinds c ks (VAR v) ≡ true → valueOf (bindAll c x ks) v ≤ valueOf (bindAll c y ks) v
-    unfolding rising
+    variable-grows : (v : ℕ) → leafRises fields c ks (VAR v) ≡ true → valueOf (bindAll c x ks) v ≤ valueOf (bindAll c y ks) v
     variable-grows v h = go (isHeld c v) refl
       where
         in-8 : isHeld c v ≡ false → Dec (v < 8) → valueOf (bindAll c x ks) v ≤ valueOf (bindAll c y ks) v
@@ -68,27 +76,38 @@ module _ (kinds : List Kind) (x y : Event) (grows : Grows kinds x y) where
         go true e = omega (arith, held-stays v e)
         go false e = in-8 e (decLt v 8)
 
-    -- Rising guards only grow, falling ones only shrink, from the values after binding on x to those on y.
-    pub guard-trend : (counters : List ℕ) (g : Expr) → Trend kinds c ks counters ((bindAll c x ks) .values) ((bindAll c y ks) .values) g
-    guard-trend counters g = trend kinds c ks counters ((bindAll c x ks) .values) ((bindAll c y ks) .values) variable-grows held-stays g
+    leaf-grows : (l : Leaf) → leafRises fields c ks l ≡ true → leaf (leave c s x) l ≤ leaf (leave c s y) l
+    unfolding leave
+    leaf-grows (CONST z) h = le-refl _
+    leaf-grows (VAR v) h = variable-grows v h
+    leaf-grows (COUNT t) h = le-refl _
+
+    leaf-shrinks : (l : Leaf) → leafFalls fields c ks l ≡ true → leaf (leave c s y) l ≤ leaf (leave c s x) l
+    unfolding leave
+    leaf-shrinks (CONST z) h = le-refl _
+    leaf-shrinks (VAR v) h = omega (arith, held-stays v h)
+    leaf-shrinks (COUNT t) h = le-refl _
+
+    -- Rising guards only grow, falling ones only shrink, from what the step leaves on x to what it leaves on y.
+    pub guard-trend : (g : Expr) → Trend fields c ks (leave c s x) (leave c s y) g
+    guard-trend g = trend fields c ks (leave c s x) (leave c s y) leaf-grows leaf-shrinks g
 
   -- Stable: a step expired by the values x is expired by the values y.
-  pub stable-step : (states : ℕ) (c : Config) (s : Step) → Valid states c → expired kinds c s x ≡ true → expired kinds c s y ≡ true
-  unfolding expired leave
-  stable-step states c s valid = or-keep (anyPastDue kinds c x (s .clauses)) (falls && zero x (s .guard)) (anyPastDue kinds c y (s .clauses)) (falls && zero y (s .guard)) (any-past-due-stays c (s .clauses)) (and-keep falls (zero x (s .guard)) (zero y (s .guard)) (guard-stays (s .guard)))
+  pub stable-step : (states : ℕ) (c : Config) (s : Step) → Valid states c → expired fields c s x ≡ true → expired fields c s y ≡ true
+  unfolding expired
+  stable-step states c s valid =
+      or-keep (anyPastDue fields c x (s .clauses)) (falls && zero x (s .guard)) (anyPastDue fields c y (s .clauses)) (falls && zero y (s .guard))
+      (any-past-due-stays c (s .clauses)) (and-keep falls (zero x (s .guard)) (zero y (s .guard)) (guard-stays (s .guard)))
     where
-      counters : List ℕ
-      counters = addOne (c .counters) (c .state)
-
       falls : Bool
-      falls = guardFalls kinds c (s .clauses) (s .guard)
+      falls = guardFalls fields c (s .clauses) (s .guard)
 
-      zero : Event → Option Expr → Bool
-      zero e g = not (guardHolds ((bindAll c e (s .clauses)) .values) counters g)
+      zero : Values → Option Expr → Bool
+      zero e g = not (guardHolds (leave c s e) g)
 
-      guard-stays : (g : Option Expr) → guardFalls kinds c (s .clauses) g ≡ true → zero x g ≡ true → zero y g ≡ true
+      guard-stays : (g : Option Expr) → guardFalls fields c (s .clauses) g ≡ true → zero x g ≡ true → zero y g ≡ true
       guard-stays none f h = h
-      guard-stays (some g) f h = truth-down (value ((bindAll c x (s .clauses)) .values) counters g) (value ((bindAll c y (s .clauses)) .values) counters g) (guard-trend states c valid (s .clauses) counters g .shrinks f) h
+      guard-stays (some g) f h = truth-down (value (leave c s x) g) (value (leave c s y) g) (guard-trend states c valid s g .shrinks f) h
 
 holds-not-missed : (o : Operator) (a z : ℕ) → holds o a z ≡ true → missed o a z ≡ false
 holds-not-missed equal a z h = refl
@@ -98,26 +117,32 @@ holds-not-missed greater a z h = refl
 holds-not-missed atmost a z h = ap not h
 holds-not-missed atleast a z h = refl
 
-passes-not-due : (kinds : List Kind) (c d : Config) (e : Event) (k : Clause) → passes c d e k ≡ true → pastDue kinds c e k ≡ false
-passes-not-due kinds c d e (TEST f o z) h = and-false (rises kinds f) (missed o (field e f) z) (holds-not-missed o (field e f) z h)
-passes-not-due kinds c d e (TESTV f o v) h = and-false (rises kinds f) (missed o (field e f) (valueOf c v)) (holds-not-missed o (field e f) (valueOf c v) h)
-passes-not-due kinds c d e (BIND f v) h = refl
+passes-not-due : (fields : List Kind) (c d : Config) (e : Values) (k : Clause) → passes c d e k ≡ true → pastDue fields c e k ≡ false
+passes-not-due fields c d e (TEST f o z) h = and-false (rises fields f) (missed o (field e f) z) (holds-not-missed o (field e f) z h)
+passes-not-due fields c d e (TESTV f o v) h = and-false (rises fields f) (missed o (field e f) (valueOf c v)) (holds-not-missed o (field e f) (valueOf c v) h)
+passes-not-due fields c d e (BIND f v) h = refl
 
-all-pass-none-due : (kinds : List Kind) (c d : Config) (e : Event) (ks : List Clause) → allPass c d e ks ≡ true → anyPastDue kinds c e ks ≡ false
-all-pass-none-due kinds c d e [] h = refl
-all-pass-none-due kinds c d e (k ∷ ks) h = or-false (pastDue kinds c e k) (anyPastDue kinds c e ks) (passes-not-due kinds c d e k (and-left (passes c d e k) (allPass c d e ks) h)) (all-pass-none-due kinds c d e ks (and-right (passes c d e k) (allPass c d e ks) h))
+all-pass-none-due : (fields : List Kind) (c d : Config) (e : Values) (ks : List Clause) → allPass c d e ks ≡ true → anyPastDue fields c e ks ≡ false
+all-pass-none-due fields c d e [] h = refl
+all-pass-none-due fields c d e (k ∷ ks) h =
+    or-false (pastDue fields c e k) (anyPastDue fields c e ks) (passes-not-due fields c d e k (and-left (passes c d e k) (allPass c d e ks) h))
+    (all-pass-none-due fields c d e ks (and-right (passes c d e k) (allPass c d e ks) h))
 
 -- a step that fires on an event is not expired by the event's values
-pub firing-not-expired : (kinds : List Kind) (c : Config) (s : Step) (e : Event) → fires c s e ≡ true → expired kinds c s e ≡ false
+pub firing-not-expired : (fields : List Kind) (c : Config) (s : Step) (e : Values) → fires c s e ≡ true → expired fields c s e ≡ false
 unfolding fires expired
-firing-not-expired kinds c s e h =
+firing-not-expired fields c s e h =
     let tests = allPass c (leave c s e) e (s .clauses) in
-    let guard = guardHolds ((leave c s e) .values) ((leave c s e) .counters) (s .guard) in
-    or-false (anyPastDue kinds c e (s .clauses)) (guardFalls kinds c (s .clauses) (s .guard) && not guard) (all-pass-none-due kinds c (leave c s e) e (s .clauses) (and-left tests guard h)) (and-false (guardFalls kinds c (s .clauses) (s .guard)) (not guard) (ap not (and-right tests guard h)))
+    let guard = guardHolds (leave c s e) (s .guard) in
+    or-false (anyPastDue fields c e (s .clauses)) (guardFalls fields c (s .clauses) (s .guard) && not guard)
+    (all-pass-none-due fields c (leave c s e) e (s .clauses) (and-left tests guard h))
+    (and-false (guardFalls fields c (s .clauses) (s .guard)) (not guard) (ap not (and-right tests guard h)))
 
 -- Silent: a step expired by the values x fires on no event whose rising fields are at least as large.
-pub silent-step : (kinds : List Kind) (x e : Event) → Grows kinds x e → (states : ℕ) (c : Config) (s : Step) → Valid states c → expired kinds c s x ≡ true → fire c s e ≡ none
+pub silent-step : (fields : List Kind) (x e : Values) → Grows fields x e → (states : ℕ) (c : Config) (s : Step) → Valid states c
+    → expired fields c s x ≡ true → fire c s e ≡ none
 unfolding fire
-silent-step kinds x e grows states c s valid h =
-    let quiet : fires c s e ≡ false = not-true-false (fires c s e) (λ f. false≢true (sym (firing-not-expired kinds c s e f) ∙ stable-step kinds x e grows states c s valid h)) in
+silent-step fields x e grows states c s valid h =
+    let quiet : fires c s e ≡ false =
+    not-true-false (fires c s e) (λ f. false≢true (sym (firing-not-expired fields c s e f) ∙ stable-step fields x e grows states c s valid h)) in
     rw quiet

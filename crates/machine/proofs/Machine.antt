@@ -1,11 +1,10 @@
 -- The machine of a correct log and a correct formula keeps the laws that the theory of runs asks for.
-use Prim.Native.Nat.{ℕ, zero, suc, _+_, _-_, _≤_, _<_}
-use mathlib.Core.Path.{_≡_, refl, sym, _∙_}
+use Prim.Native.Nat.{ℕ, zero, suc, _≤_, _<_}
+use mathlib.Core.Path.{_≡_, refl, sym, subst, _∙_}
 use mathlib.Core.Bool.{Bool, true, false, true≢false, false≢true}
 use mathlib.Core.List.{List, [], _∷_}
 use mathlib.Core.Option.{Option, none, some}
 use native.Mathlib.Omega.{arith}
-use native.Mathlib.Nat.{le-refl}
 use native.Mathlib.Decide.{decLt}
 use lib.ListN.{length, length-set, getD, set, List·getD-eq-default}
 use lib.Seq.{getD-set-same, getD-set-other}
@@ -14,15 +13,19 @@ use borrow.Author.Tests.{eqb-true, eqb-false}
 use Rattle.base.proofs.Lists.{replicate-at}
 use Rattle.formula.proofs.Steps.{all-some}
 use Rattle.base.specs.Lists.{All}
-use Rattle.event_log.specs.Log.{Kind, plain, rising, Log, Event}
+use Rattle.event_log.specs.Log.{Kind, plain, rising, Values, Event, Log, noEvent, eventAt}
+use Rattle.event_log.specs.Correct.{value, Recorded}
+use Rattle.event_log.specs.Latest.{latest}
+use Rattle.event_log.proofs.LastSeen.{latest-is}
+use Rattle.event_log.proofs.Rising.{never-falls-to}
 use Rattle.formula.specs.Formula.{Formula, State, ordinary, Step, Clause, TEST, TESTV, BIND}
 use Rattle.formula.specs.Unbound.{stepsOf}
 use Rattle.formula.specs.Lookup.{stepAt}
-use Rattle.runs.specs.Machine.{Laws}
+use Rattle.runs.specs.inner.Laws.{Laws}
 use Rattle.machine.specs.Configuration.{Config, start, total, Valid}
 use Rattle.machine.specs.Firing.{field, isHeld, hold, bindAll, leave, fires, fire}
 use Rattle.machine.specs.Expiry.{isRising}
-use Rattle.machine.specs.Machine.{eventAt, latest, fireBy, fireAt, expiredBy, expiredAt, final, machine}
+use Rattle.machine.specs.Machine.{fireBy, fireAt, expiredBy, expiredAt, final, machine}
 use Rattle.machine.proofs.Configurations.{same-equal, equal-same, total-add-one, length-add-one}
 use Rattle.machine.proofs.Binding.{hold-held, hold-new}
 use Rattle.machine.proofs.Expiry.{Grows, stable-step, silent-step}
@@ -77,17 +80,18 @@ valid-hold states c v x h k = go (isHeld c v) refl
     })
 
 -- every value of the event fits a word
-abbrev Fits : Event → Type 0
+abbrev Fits : Values → Type 0
 Fits e = All (λ v. v < 4294967296) e
 
-valid-bind : (states : ℕ) (c : Config) (e : Event) (ks : List Clause) → Valid states c → Fits e → Valid states (bindAll c e ks)
+valid-bind : (states : ℕ) (c : Config) (e : Values) (ks : List Clause) → Valid states c → Fits e → Valid states (bindAll c e ks)
 valid-bind states c e [] h k = h
 valid-bind states c e (TEST f o x ∷ ks) h k = valid-bind states c e ks h k
 valid-bind states c e (TESTV f o v ∷ ks) h k = valid-bind states c e ks h k
-valid-bind states c e (BIND f v ∷ ks) h k = valid-bind states (hold c v (field e f)) e ks (valid-hold states c v (field e f) h (all-getD (λ y. y < 4294967296) e f 0 k (omega arith))) k
+valid-bind states c e (BIND f v ∷ ks) h k =
+    valid-bind states (hold c v (field e f)) e ks (valid-hold states c v (field e f) h (all-getD (λ y. y < 4294967296) e f 0 k (omega arith))) k
 
 -- what a step leaves is valid
-pub valid-leave : (states : ℕ) (c : Config) (s : Step) (e : Event) → Valid states c → Fits e → states ≤ 16 → s .target < states → Valid states (leave c s e)
+pub valid-leave : (states : ℕ) (c : Config) (s : Step) (e : Values) → Valid states c → Fits e → states ≤ 16 → s .target < states → Valid states (leave c s e)
 unfolding leave
 valid-leave states c s e h k n t =
     let b = valid-bind states c e (s .clauses) h k in
@@ -101,11 +105,11 @@ valid-leave states c s e h k n t =
     }
 
 -- a step fired: what is left is what the step leaves
-pub record Fired (c : Config) (s : Step) (e : Event) (d : Config) : Type 0 where
+pub record Fired (c : Config) (s : Step) (e : Values) (d : Config) : Type 0 where
   pub tests : fires c s e ≡ true
   pub leaves : d ≡ leave c s e
 
-pub fire-some : (c : Config) (s : Step) (e : Event) (d : Config) → fire c s e ≡ some d → Fired c s e d
+pub fire-some : (c : Config) (s : Step) (e : Values) (d : Config) → fire c s e ≡ some d → Fired c s e d
 unfolding fire
 fire-some c s e d h = go (fires c s e) refl
   where
@@ -117,7 +121,7 @@ fire-some c s e d h = go (fires c s e) refl
 pub record FiredAt (log : Log) (formula : Formula) (c : Config) (n k : ℕ) (d : Config) : Type 0 where
   pub step : Step
   pub found : stepAt formula (c .state) k ≡ some step
-  pub fired : Fired c step (eventAt log n) d
+  pub fired : Fired c step ((eventAt log n) .values) d
 
 pub fire-at-some : (log : Log) (formula : Formula) (c d : Config) (n k : ℕ) → fireAt log formula c n k ≡ some d → FiredAt log formula c n k d
 unfolding fireAt
@@ -125,7 +129,7 @@ fire-at-some log formula c d n k h = go (stepAt formula (c .state) k) refl
   where
     go : (o : Option Step) → stepAt formula (c .state) k ≡ o → FiredAt log formula c n k d
     go none q = let h′ : none ≡ some d = rw q at h in let z : _≡_ {A = ℕ} 0 1 = cc in absurd (omega arith)
-    go (some s) q = record { step = s; found = q; fired = fire-some c s (eventAt log n) d (rw q at h) }
+    go (some s) q = record { step = s; found = q; fired = fire-some c s ((eventAt log n) .values) d (rw q at h) }
 
 -- every step adds one to the sum of the counters
 pub weight-fire : (log : Log) (formula : Formula) (c d : Config) (n k : ℕ) → fireAt log formula c n k ≡ some d → total (d .counters) ≡ suc (total (c .counters))
@@ -136,10 +140,8 @@ weight-fire log formula c d n k h =
 
 -- What the machine's laws need of a correct log and a correct formula.
 pub record Premises (log : Log) (formula : Formula) : Type 0 where
-  -- "A rising field is never smaller than in the event before"
-  pub never-falls : (n k : ℕ) → suc n < length (log .events) → getD (log .fields) k plain ≡ rising → getD (getD (log .events) n []) k 0 ≤ getD (getD (log .events) (suc n) []) k 0
-  -- "Values are 4 bytes"
-  pub values-fit : All (λ (e : Event). All (λ v. v < 4294967296) e) (log .events)
+  -- a correct file records the log
+  pub recorded : Recorded log
   -- "1 to 16 states"
   pub some-state : 1 ≤ length (formula .states)
   pub most-states : length (formula .states) ≤ 16
@@ -153,51 +155,49 @@ module _ (log : Log) (formula : Formula) (P : Premises log formula) where
   rising-kind plain h = absurd (false≢true h)
   rising-kind rising h = refl
 
-  -- rising fields grow from event n to event n + d
-  grow-by : (d n : ℕ) → n + d < length (log .events) → Grows (log .fields) (eventAt log n) (eventAt log (n + d))
-  unfolding eventAt
-  grow-by zero n h f r = let e : n + 0 ≡ n = omega arith in rw e (le-refl _)
-  grow-by (suc d) n h f r =
-      let e : n + suc d ≡ suc (n + d) = omega arith in
-      let p = grow-by d n (omega arith) f r in
-      let q = P .never-falls (n + d) f (omega arith) (rising-kind (getD (log .fields) f plain) r) in
-      rw e (omega arith)
-
-  -- the event after which a step is judged, and any later event
-  pub grow-to : (n m : ℕ) → n ≤ m → m < length (log .events) → Grows (log .fields) (latest log n) (eventAt log m)
-  unfolding latest
-  grow-to n m h k = go (m - n) (omega arith)
-    where
-      go : (d : ℕ) → n + d ≡ m → Grows (log .fields) (eventAt log n) (eventAt log m)
-      go d e = rw e at (grow-by d n (omega arith))
+  -- rising fields grow from the values by which a step is judged to any later event
+  pub grow-to : (n m : ℕ) → n ≤ m → m < length (log .events) → Grows (log .fields) (latest log n) ((eventAt log m) .values)
+  unfolding value
+  grow-to n m h k f r =
+      rw (latest-is log (P .recorded) n (omega arith)) (never-falls-to log (P .recorded) f (rising-kind (getD (log .fields) f plain) r) n m h k)
 
   target-declared : (s k : ℕ) (t : Step) → stepAt formula s k ≡ some t → t .target < length (formula .states)
   unfolding stepAt stepsOf
-  target-declared s k t h = all-some (λ (u : Step). u .target < length (formula .states)) (stepsOf formula s) k t h (all-getD (λ (y : State). All (λ (u : Step). u .target < length (formula .states)) (y .steps)) (formula .states) s (record { kind = ordinary; steps = [] }) (P .targets) tt) .0
+  target-declared s k t h =
+      all-some (λ (u : Step). u .target < length (formula .states)) (stepsOf formula s) k t h
+      (all-getD (λ (y : State). All (λ (u : Step). u .target < length (formula .states)) (y .steps)) (formula .states) s
+      (record { kind = ordinary; steps = [] }) (P .targets) tt) .0
 
   pub valid-fire : (c d : Config) (n k : ℕ) → Valid (length (formula .states)) c → fireAt log formula c n k ≡ some d → Valid (length (formula .states)) d
   unfolding eventAt
   valid-fire c d n k v h =
       let f = fire-at-some log formula c d n k h in
-      rw (f .fired .leaves) (valid-leave (length (formula .states)) c (f .step) (eventAt log n) v (all-getD Fits (log .events) n [] (P .values-fit) tt) (P .most-states) (target-declared (c .state) k (f .step) (f .found)))
+      rw (f .fired .leaves) (valid-leave (length (formula .states)) c (f .step) ((eventAt log n) .values) v
+      (all-getD (λ (e : Event). Fits (e .values)) (log .events) n noEvent (P .recorded .values-fit) tt) (P .most-states)
+      (target-declared (c .state) k (f .step) (f .found)))
 
   -- a step expired after n is expired after every later event
-  pub stable : (c : Config) (k n m : ℕ) → Valid (length (formula .states)) c → n ≤ m → m < length (log .events) → expiredAt log formula c k n ≡ true → expiredAt log formula c k m ≡ true
-  unfolding expiredAt latest
+  pub stable : (c : Config) (k n m : ℕ) → Valid (length (formula .states)) c → n ≤ m → m < length (log .events) → expiredAt log formula c k n ≡ true
+      → expiredAt log formula c k m ≡ true
+  unfolding expiredAt
   stable c k n m v h j e = go (stepAt formula (c .state) k) e
     where
-      go : (o : Option Step) → expiredBy log o c (latest log n) ≡ true → expiredBy log o c (latest log m) ≡ true
+      grows : Grows (log .fields) (latest log n) (latest log m)
+      grows = subst (Grows (log .fields) (latest log n)) (sym (latest-is log (P .recorded) m j)) (grow-to n m h j)
+
+      go : (o : Option Step) → expiredBy (log .fields) o c (latest log n) ≡ true → expiredBy (log .fields) o c (latest log m) ≡ true
       go none q = refl
-      go (some s) q = stable-step (log .fields) (latest log n) (latest log m) (grow-to n m h j) (length (formula .states)) c s v q
+      go (some s) q = stable-step (log .fields) (latest log n) (latest log m) grows (length (formula .states)) c s v q
 
   -- a step expired after n fires on no later event
-  pub silent : (c : Config) (k n m : ℕ) → Valid (length (formula .states)) c → n < m → m < length (log .events) → expiredAt log formula c k n ≡ true → fireAt log formula c m k ≡ none
+  pub silent : (c : Config) (k n m : ℕ) → Valid (length (formula .states)) c → n < m → m < length (log .events) → expiredAt log formula c k n ≡ true
+      → fireAt log formula c m k ≡ none
   unfolding expiredAt fireAt
   silent c k n m v h j e = go (stepAt formula (c .state) k) e
     where
-      go : (o : Option Step) → expiredBy log o c (latest log n) ≡ true → fireBy o c (eventAt log m) ≡ none
+      go : (o : Option Step) → expiredBy (log .fields) o c (latest log n) ≡ true → fireBy o c ((eventAt log m) .values) ≡ none
       go none q = refl
-      go (some s) q = silent-step (log .fields) (latest log n) (eventAt log m) (grow-to n m (omega arith) j) (length (formula .states)) c s v q
+      go (some s) q = silent-step (log .fields) (latest log n) ((eventAt log m) .values) (grow-to n m (omega arith) j) (length (formula .states)) c s v q
 
   -- The machine keeps every law that the search is exact by.
   unfoldable pub laws : Laws (machine log formula)

@@ -14,40 +14,51 @@ use Rattle.formula.proofs.Basics.{all-right, all-left}
 use Rattle.machine.specs.Configuration.{start}
 use Rattle.machine.specs.Machine.{kindIs, final, machine}
 use Rattle.machine.proofs.Machine.{Premises, laws}
-use Rattle.runs.specs.Machine.{Laws}
+use Rattle.runs.specs.inner.Laws.{Laws}
 
 -- no STEP names an absent state
-steps-declared : (fields states : ℕ) (ts : List Step) → All (FormulaCorrect.Exists fields states) (flatMap stepCommands ts) → All (λ (t : Step). t .target < states) ts
+steps-declared : (fields states : ℕ) (ts : List Step) → All (FormulaCorrect.Exists fields states) (flatMap stepCommands ts)
+    → All (λ (t : Step). t .target < states) ts
 unfolding flatMap stepCommands
 steps-declared fields states [] h = tt
-steps-declared fields states (t ∷ ts) h =
-    (h .0, steps-declared fields states ts (all-right (FormulaCorrect.Exists fields states) (map CLAUSE (t .clauses) ++ guardCommands (t .guard)) (flatMap stepCommands ts) (h .1)))
+steps-declared fields states (t ∷ ts) h = (
+  h .0,
+  steps-declared fields states ts
+      (all-right (FormulaCorrect.Exists fields states) (map CLAUSE (t .clauses) ++ guardCommands (t .guard)) (flatMap stepCommands ts) (h .1)),
+)
 
-targets-declared : (fields states : ℕ) (xs : List State) → All (FormulaCorrect.Exists fields states) (flatMap stateCommands xs) → All (λ (s : State). All (λ (t : Step). t .target < states) (s .steps)) xs
+targets-declared : (fields states : ℕ) (xs : List State) → All (FormulaCorrect.Exists fields states) (flatMap stateCommands xs)
+    → All (λ (s : State). All (λ (t : Step). t .target < states) (s .steps)) xs
 unfolding flatMap stateCommands
 targets-declared fields states [] h = tt
-targets-declared fields states (x ∷ xs) h =
-    (steps-declared fields states (x .steps) (all-left (FormulaCorrect.Exists fields states) (flatMap stepCommands (x .steps)) (flatMap stateCommands xs) (h .1)), targets-declared fields states xs (all-right (FormulaCorrect.Exists fields states) (flatMap stepCommands (x .steps)) (flatMap stateCommands xs) (h .1)))
+targets-declared fields states (x ∷ xs) h = (
+  steps-declared fields states (x .steps)
+      (all-left (FormulaCorrect.Exists fields states) (flatMap stepCommands (x .steps)) (flatMap stateCommands xs) (h .1)),
+  targets-declared fields states xs
+      (all-right (FormulaCorrect.Exists fields states) (flatMap stepCommands (x .steps)) (flatMap stateCommands xs) (h .1)),
+)
 
 -- no dead start
 open-first : (xs : List State) → FormulaCorrect.deadStart xs ≡ false → kindIs FormulaCorrect.isFinal (getElem? xs 0) ≡ false
 open-first [] h = refl
 open-first (x ∷ xs) h = h
 
-module _ (g : Log) (fm : Formula) (log : LogCorrect.Correct g) (formula : FormulaCorrect.Correct (length (g .fields)) fm) where
+module _ (g : Log) (fm : Formula) (log : LogCorrect.Recorded g) (formula : FormulaCorrect.Correct (length (g .fields)) fm) where
   open-start : final fm start ≡ false
   unfolding final start
   open-start = open-first (fm .states) (formula .start)
 
   pub premises : Premises g fm
-  unfolding LogCorrect.value commands
+  unfolding commands
   premises =
       record {
-        never-falls = log .never-falls;
-        values-fit = log .values-fit;
+        recorded = log;
         some-state = formula .nonempty;
         most-states = formula .states;
-        targets = targets-declared (length (g .fields)) (length (fm .states)) (fm .states) (all-right (FormulaCorrect.Exists (length (g .fields)) (length (fm .states))) (map TIED (fm .tied)) (flatMap stateCommands (fm .states)) (formula .values));
+        targets =
+            targets-declared (length (g .fields)) (length (fm .states)) (fm .states)
+            (all-right (FormulaCorrect.Exists (length (g .fields)) (length (fm .states))) (map TIED (fm .tied)) (flatMap stateCommands (fm .states))
+            (formula .values));
         open-start = open-start;
       }
 

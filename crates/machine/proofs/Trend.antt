@@ -5,15 +5,13 @@ use mathlib.Core.Bool.{Bool, true, false, not, _&&_, _||_, cond, false≢true}
 use mathlib.Core.List.{List}
 use native.Mathlib.Omega.{arith}
 use native.Mathlib.Nat.{le-refl}
-use lib.ListN.{getD}
 use lib.Dec.{ltb, leb, eqb}
 use borrow.Author.Tests.{ltb-true, leb-true, lt-ltb, le-leb, not-true}
 use Rattle.event_log.specs.Log.{Kind}
-use Rattle.formula.specs.Formula.{Clause, Expr, CONST, VAR, COUNT, ADD, SUB, LESS, ATMOST, EQUAL, NOT, AND, OR, IF}
+use Rattle.formula.specs.Formula.{Clause, Leaf, Expr, LEAF, ADD, SUB, LESS, ATMOST, EQUAL, NOT, AND, OR, IF}
 use Rattle.machine.specs.Configuration.{Config}
-use Rattle.machine.specs.Guard.{truth, bit, value}
-use Rattle.machine.specs.Firing.{isHeld}
-use Rattle.machine.specs.Expiry.{rising, falling}
+use Rattle.machine.specs.Guard.{truth, bit, leaf, value}
+use Rattle.machine.specs.Expiry.{leafRises, leafFalls, rising, falling}
 use Rattle.base.proofs.Tests.{and-left, and-right, or-keep, not-true-false}
 
 -- a test that is kept gives no smaller number
@@ -45,7 +43,9 @@ not-up : (a a′ : ℕ) → a′ ≤ a → bit (not (truth a)) ≤ bit (not (tru
 not-up a a′ p = bit-up (not (truth a)) (not (truth a′)) (truth-down a a′ p)
 
 and-up : (a b a′ b′ : ℕ) → a ≤ a′ → b ≤ b′ → bit (truth a && truth b) ≤ bit (truth a′ && truth b′)
-and-up a b a′ b′ p q = bit-up (truth a && truth b) (truth a′ && truth b′) (λ h. rw (truth-up a a′ p (and-left (truth a) (truth b) h)) (truth-up b b′ q (and-right (truth a) (truth b) h)))
+and-up a b a′ b′ p q =
+    bit-up (truth a && truth b) (truth a′ && truth b′)
+    (λ h. rw (truth-up a a′ p (and-left (truth a) (truth b) h)) (truth-up b b′ q (and-right (truth a) (truth b) h)))
 
 or-up : (a b a′ b′ : ℕ) → a ≤ a′ → b ≤ b′ → bit (truth a || truth b) ≤ bit (truth a′ || truth b′)
 or-up a b a′ b′ p q = bit-up (truth a || truth b) (truth a′ || truth b′) (or-keep (truth a) (truth b) (truth a′) (truth b′) (truth-up a a′ p) (truth-up b b′ q))
@@ -60,42 +60,43 @@ if-up a a′ b b′ d d′ p q r = rw p (go (truth a′))
     go true = q
     go false = r
 
--- from the values X to the values Y, the expression only grows if it is rising, and only shrinks if it is falling
-pub record Trend (kinds : List Kind) (c : Config) (ks : List Clause) (counters X Y : List ℕ) (e : Expr) : Type 0 where
-  pub grows : rising kinds c ks e ≡ true → value X counters e ≤ value Y counters e
-  pub shrinks : falling kinds c ks e ≡ true → value Y counters e ≤ value X counters e
+-- from configuration X to configuration Y, the expression only grows if it is rising, and only shrinks if it is falling
+pub record Trend (fields : List Kind) (c : Config) (ks : List Clause) (X Y : Config) (e : Expr) : Type 0 where
+  pub grows : rising fields c ks e ≡ true → value X e ≤ value Y e
+  pub shrinks : falling fields c ks e ≡ true → value Y e ≤ value X e
 
--- X and Y are the variables' values after binding, by two events
-module _ (kinds : List Kind) (c : Config) (ks : List Clause) (counters X Y : List ℕ)
-    (grow : (v : ℕ) → rising kinds c ks (VAR v) ≡ true → getD X v 0 ≤ getD Y v 0)
-    (stay : (v : ℕ) → isHeld c v ≡ true → getD X v 0 ≡ getD Y v 0) where
+-- X and Y are two configurations in which rising leaves grow and falling ones shrink: what a step leaves, on two events
+module _ (fields : List Kind) (c : Config) (ks : List Clause) (X Y : Config)
+    (grow : (l : Leaf) → leafRises fields c ks l ≡ true → leaf X l ≤ leaf Y l)
+    (shrink : (l : Leaf) → leafFalls fields c ks l ≡ true → leaf Y l ≤ leaf X l) where
   abbrev up : Expr → Bool
-  up e = rising kinds c ks e
+  up e = rising fields c ks e
 
   abbrev down : Expr → Bool
-  down e = falling kinds c ks e
+  down e = falling fields c ks e
 
   abbrev at-x : Expr → ℕ
-  at-x e = value X counters e
+  at-x e = value X e
 
   abbrev at-y : Expr → ℕ
-  at-y e = value Y counters e
+  at-y e = value Y e
 
   -- an expression that is both does not change
-  both : (e : Expr) → Trend kinds c ks counters X Y e → up e && down e ≡ true → at-x e ≡ at-y e
+  both : (e : Expr) → Trend fields c ks X Y e → up e && down e ≡ true → at-x e ≡ at-y e
   both e t h =
       let p = t .grows (and-left (up e) (down e) h) in
       let q = t .shrinks (and-right (up e) (down e) h) in
       omega arith
 
-  pub trend : (e : Expr) → Trend kinds c ks counters X Y e
+  pub trend : (e : Expr) → Trend fields c ks X Y e
   unfolding rising falling value
-  trend (CONST x) = record { grows = λ h. le-refl _; shrinks = λ h. le-refl _ }
-  trend (VAR v) = record { grows = grow v; shrinks = λ h. omega (arith, stay v h) }
-  trend (COUNT s) = record { grows = λ h. le-refl _; shrinks = λ h. le-refl _ }
+  trend (LEAF l) = record { grows = grow l; shrinks = shrink l }
   trend (ADD a b) = record {
     grows = λ h. add-up (at-x a) (at-x b) (at-y a) (at-y b) (trend a .grows (and-left (up a) (up b) h)) (trend b .grows (and-right (up a) (up b) h));
-    shrinks = λ h. add-up (at-y a) (at-y b) (at-x a) (at-x b) (trend a .shrinks (and-left (down a) (down b) h)) (trend b .shrinks (and-right (down a) (down b) h));
+    shrinks =
+        λ h.
+        add-up (at-y a) (at-y b) (at-x a) (at-x b) (trend a .shrinks (and-left (down a) (down b) h))
+        (trend b .shrinks (and-right (down a) (down b) h));
   }
   trend (SUB a b) = record {
     grows = λ h. sub-up (at-x a) (at-x b) (at-y a) (at-y b) (trend a .grows (and-left (up a) (down b) h)) (trend b .shrinks (and-right (up a) (down b) h));
@@ -110,8 +111,14 @@ module _ (kinds : List Kind) (c : Config) (ks : List Clause) (counters X Y : Lis
     shrinks = λ h. atmost-up (at-y a) (at-y b) (at-x a) (at-x b) (trend a .grows (and-left (up a) (down b) h)) (trend b .shrinks (and-right (up a) (down b) h));
   }
   trend (EQUAL a b) = record {
-    grows = λ h. equal-same (at-x a) (at-x b) (at-y a) (at-y b) (both a (trend a) (and-left (up a && down a) (up b && down b) h)) (both b (trend b) (and-right (up a && down a) (up b && down b) h));
-    shrinks = λ h. equal-same (at-y a) (at-y b) (at-x a) (at-x b) (sym (both a (trend a) (and-left (up a && down a) (up b && down b) h))) (sym (both b (trend b) (and-right (up a && down a) (up b && down b) h)));
+    grows =
+        λ h.
+        equal-same (at-x a) (at-x b) (at-y a) (at-y b) (both a (trend a) (and-left (up a && down a) (up b && down b) h))
+        (both b (trend b) (and-right (up a && down a) (up b && down b) h));
+    shrinks =
+        λ h.
+        equal-same (at-y a) (at-y b) (at-x a) (at-x b) (sym (both a (trend a) (and-left (up a && down a) (up b && down b) h)))
+        (sym (both b (trend b) (and-right (up a && down a) (up b && down b) h)));
   }
   trend (NOT a) = record {
     grows = λ h. not-up (at-x a) (at-y a) (trend a .shrinks h);
@@ -119,13 +126,26 @@ module _ (kinds : List Kind) (c : Config) (ks : List Clause) (counters X Y : Lis
   }
   trend (AND a b) = record {
     grows = λ h. and-up (at-x a) (at-x b) (at-y a) (at-y b) (trend a .grows (and-left (up a) (up b) h)) (trend b .grows (and-right (up a) (up b) h));
-    shrinks = λ h. and-up (at-y a) (at-y b) (at-x a) (at-x b) (trend a .shrinks (and-left (down a) (down b) h)) (trend b .shrinks (and-right (down a) (down b) h));
+    shrinks =
+        λ h.
+        and-up (at-y a) (at-y b) (at-x a) (at-x b) (trend a .shrinks (and-left (down a) (down b) h))
+        (trend b .shrinks (and-right (down a) (down b) h));
   }
   trend (OR a b) = record {
     grows = λ h. or-up (at-x a) (at-x b) (at-y a) (at-y b) (trend a .grows (and-left (up a) (up b) h)) (trend b .grows (and-right (up a) (up b) h));
-    shrinks = λ h. or-up (at-y a) (at-y b) (at-x a) (at-x b) (trend a .shrinks (and-left (down a) (down b) h)) (trend b .shrinks (and-right (down a) (down b) h));
+    shrinks =
+        λ h.
+        or-up (at-y a) (at-y b) (at-x a) (at-x b) (trend a .shrinks (and-left (down a) (down b) h)) (trend b .shrinks (and-right (down a) (down b) h));
   }
   trend (IF a b d) = record {
-    grows = λ h. if-up (at-x a) (at-y a) (at-x b) (at-y b) (at-x d) (at-y d) (both a (trend a) (and-left (up a && down a) (up b && up d) h)) (trend b .grows (and-left (up b) (up d) (and-right (up a && down a) (up b && up d) h))) (trend d .grows (and-right (up b) (up d) (and-right (up a && down a) (up b && up d) h)));
-    shrinks = λ h. if-up (at-y a) (at-x a) (at-y b) (at-x b) (at-y d) (at-x d) (sym (both a (trend a) (and-left (up a && down a) (down b && down d) h))) (trend b .shrinks (and-left (down b) (down d) (and-right (up a && down a) (down b && down d) h))) (trend d .shrinks (and-right (down b) (down d) (and-right (up a && down a) (down b && down d) h)));
+    grows =
+        λ h.
+        if-up (at-x a) (at-y a) (at-x b) (at-y b) (at-x d) (at-y d) (both a (trend a) (and-left (up a && down a) (up b && up d) h))
+        (trend b .grows (and-left (up b) (up d) (and-right (up a && down a) (up b && up d) h)))
+        (trend d .grows (and-right (up b) (up d) (and-right (up a && down a) (up b && up d) h)));
+    shrinks =
+        λ h.
+        if-up (at-y a) (at-x a) (at-y b) (at-x b) (at-y d) (at-x d) (sym (both a (trend a) (and-left (up a && down a) (down b && down d) h)))
+        (trend b .shrinks (and-left (down b) (down d) (and-right (up a && down a) (down b && down d) h)))
+        (trend d .shrinks (and-right (down b) (down d) (and-right (up a && down a) (down b && down d) h)));
   }

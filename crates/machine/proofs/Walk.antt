@@ -8,13 +8,13 @@ use native.Mathlib.Decide.{decLt}
 use lib.ListN.{length, List·getD-eq-default}
 use lib.Seq.{getD-set-same}
 use lib.Dec.{eqb}
-use Rattle.event_log.specs.Log.{Kind, Event}
+use Rattle.event_log.specs.Log.{Kind, Values}
 use Rattle.formula.specs.Formula.{Clause, TEST, TESTV, BIND, Step}
-use Rattle.machine.specs.Configuration.{Config, addOne}
+use Rattle.machine.specs.Configuration.{Config}
 use Rattle.machine.specs.Guard.{guardHolds}
 use Rattle.machine.specs.Firing.{holds, field, valueOf, isHeld, hold, bind, bindAll, leave, passes, allPass, fires, fire}
 use Rattle.machine.specs.Expiry.{anyPastDue, expired}
-use Rattle.machine.specs.Walk.{walk}
+use Rattle.machine.specs.inner.Walk.{walk}
 use Rattle.machine.proofs.Binding.{hold-held, hold-new, hold-shape, bind-keeps, bind-shape}
 
 -- a configuration with a place for each variable
@@ -26,7 +26,7 @@ places-hold : (c : Config) (v x : ℕ) → Places c → Places (hold c v x)
 places-hold c v x p = let s = hold-shape c v x in record { held-8 = s .held-length ∙ p .held-8; values-8 = s .values-length ∙ p .values-8 }
 
 -- a variable that a BIND has met keeps its value through the clauses behind it
-settled : (d : Config) (v x : ℕ) (e : Event) (ks : List Clause) → Places d → valueOf (bindAll (hold d v x) e ks) v ≡ valueOf (hold d v x) v
+settled : (d : Config) (v x : ℕ) (e : Values) (ks : List Clause) → Places d → valueOf (bindAll (hold d v x) e ks) v ≡ valueOf (hold d v x) v
 settled d v x e ks p = go (decLt v 8)
   where
     now-held : (b : Bool) → isHeld d v ≡ b → v < 8 → isHeld (hold d v x) v ≡ true
@@ -41,17 +41,17 @@ settled d v x e ks p = go (decLt v 8)
         List·getD-eq-default ((bindAll (hold d v x) e ks) .values) 0 j ∙ sym (List·getD-eq-default ((hold d v x) .values) 0 h)
 
 -- a clause passes against what is bound so far exactly when it passes against what all clauses bind
-passes-so-far : (c d : Config) (e : Event) (k : Clause) (ks : List Clause) → Places d → passes c (bindAll (bind d e k) e ks) e k ≡ passes c (bind d e k) e k
+passes-so-far : (c d : Config) (e : Values) (k : Clause) (ks : List Clause) → Places d → passes c (bindAll (bind d e k) e ks) e k ≡ passes c (bind d e k) e k
 passes-so-far c d e (TEST f o x) ks p = refl
 passes-so-far c d e (TESTV f o v) ks p = refl
 passes-so-far c d e (BIND f v) ks p = ap (λ (y : ℕ). eqb (field e f) y) (settled d v (field e f) e ks p)
 
-places-bind : (d : Config) (e : Event) (k : Clause) → Places d → Places (bind d e k)
+places-bind : (d : Config) (e : Values) (k : Clause) → Places d → Places (bind d e k)
 places-bind d e (TEST f o x) p = p
 places-bind d e (TESTV f o v) p = p
 places-bind d e (BIND f v) p = places-hold d v (field e f) p
 
-pub walk-all : (c d : Config) (e : Event) (ks : List Clause) → Places d → allPass c (bindAll d e ks) e ks ≡ walk c d e ks
+pub walk-all : (c d : Config) (e : Values) (ks : List Clause) → Places d → allPass c (bindAll d e ks) e ks ≡ walk c d e ks
 walk-all c d e [] p = refl
 walk-all c d e (k ∷ ks) p =
     let a = passes-so-far c d e k ks p in
@@ -59,15 +59,15 @@ walk-all c d e (k ∷ ks) p =
     rw (a, b)
 
 -- only the values after binding matter
-all-pass-values : (c d d′ : Config) (e : Event) (ks : List Clause) → d .values ≡ d′ .values → allPass c d e ks ≡ allPass c d′ e ks
+all-pass-values : (c d d′ : Config) (e : Values) (ks : List Clause) → d .values ≡ d′ .values → allPass c d e ks ≡ allPass c d′ e ks
 all-pass-values c d d′ e [] h = refl
 all-pass-values c d d′ e (TEST f o x ∷ ks) h = ap (λ (b : Bool). holds o (field e f) x && b) (all-pass-values c d d′ e ks h)
 all-pass-values c d d′ e (TESTV f o v ∷ ks) h = ap (λ (b : Bool). holds o (field e f) (valueOf c v) && b) (all-pass-values c d d′ e ks h)
 all-pass-values c d d′ e (BIND f v ∷ ks) h = rw (all-pass-values c d d′ e ks h, h)
 
 -- Firing is the walk and the guard.
-pub fires-walk : (c : Config) (s : Step) (e : Event) → Places c
-    → fires c s e ≡ (walk c c e (s .clauses) && guardHolds ((bindAll c e (s .clauses)) .values) (addOne (c .counters) (c .state)) (s .guard))
+pub fires-walk : (c : Config) (s : Step) (e : Values) → Places c
+    → fires c s e ≡ (walk c c e (s .clauses) && guardHolds (leave c s e) (s .guard))
 unfolding fires leave
 fires-walk c s e p =
     let a = all-pass-values c (leave c s e) (bindAll c e (s .clauses)) e (s .clauses) refl in
@@ -75,24 +75,24 @@ fires-walk c s e p =
     rw (a, b)
 
 -- two events with the same fields
-module _ (e e′ : Event) (fields : (f : ℕ) → field e f ≡ field e′ f) where
+module _ (e e′ : Values) (alike : (f : ℕ) → field e f ≡ field e′ f) where
   bind-fields : (c : Config) (ks : List Clause) → bindAll c e ks ≡ bindAll c e′ ks
   bind-fields c [] = refl
   bind-fields c (TEST f o x ∷ ks) = bind-fields c ks
   bind-fields c (TESTV f o v ∷ ks) = bind-fields c ks
-  bind-fields c (BIND f v ∷ ks) = rw (fields f) (bind-fields (hold c v (field e′ f)) ks)
+  bind-fields c (BIND f v ∷ ks) = rw (alike f) (bind-fields (hold c v (field e′ f)) ks)
 
   all-pass-fields : (c d : Config) (ks : List Clause) → allPass c d e ks ≡ allPass c d e′ ks
   all-pass-fields c d [] = refl
-  all-pass-fields c d (TEST f o x ∷ ks) = rw (fields f, all-pass-fields c d ks)
-  all-pass-fields c d (TESTV f o v ∷ ks) = rw (fields f, all-pass-fields c d ks)
-  all-pass-fields c d (BIND f v ∷ ks) = rw (fields f, all-pass-fields c d ks)
+  all-pass-fields c d (TEST f o x ∷ ks) = rw (alike f, all-pass-fields c d ks)
+  all-pass-fields c d (TESTV f o v ∷ ks) = rw (alike f, all-pass-fields c d ks)
+  all-pass-fields c d (BIND f v ∷ ks) = rw (alike f, all-pass-fields c d ks)
 
-  past-due-fields : (kinds : List Kind) (c : Config) (ks : List Clause) → anyPastDue kinds c e ks ≡ anyPastDue kinds c e′ ks
-  past-due-fields kinds c [] = refl
-  past-due-fields kinds c (TEST f o x ∷ ks) = rw (fields f, past-due-fields kinds c ks)
-  past-due-fields kinds c (TESTV f o v ∷ ks) = rw (fields f, past-due-fields kinds c ks)
-  past-due-fields kinds c (BIND f v ∷ ks) = past-due-fields kinds c ks
+  past-due-fields : (fields : List Kind) (c : Config) (ks : List Clause) → anyPastDue fields c e ks ≡ anyPastDue fields c e′ ks
+  past-due-fields fields c [] = refl
+  past-due-fields fields c (TEST f o x ∷ ks) = rw (alike f, past-due-fields fields c ks)
+  past-due-fields fields c (TESTV f o v ∷ ks) = rw (alike f, past-due-fields fields c ks)
+  past-due-fields fields c (BIND f v ∷ ks) = past-due-fields fields c ks
 
   leave-fields : (c : Config) (s : Step) → leave c s e ≡ leave c s e′
   unfolding leave
@@ -103,6 +103,6 @@ module _ (e e′ : Event) (fields : (f : ℕ) → field e f ≡ field e′ f) wh
   unfolding fire fires
   fire-fields c s = rw (leave-fields c s, all-pass-fields c (leave c s e′) (s .clauses))
 
-  pub expired-fields : (kinds : List Kind) (c : Config) (s : Step) → expired kinds c s e ≡ expired kinds c s e′
+  pub expired-fields : (fields : List Kind) (c : Config) (s : Step) → expired fields c s e ≡ expired fields c s e′
   unfolding expired
-  expired-fields kinds c s = rw (leave-fields c s, past-due-fields kinds c (s .clauses))
+  expired-fields fields c s = rw (leave-fields c s, past-due-fields fields c (s .clauses))

@@ -5,8 +5,9 @@ use mathlib.Core.List.{List, [], _∷_}
 use mathlib.Core.Option.{Option, none, some}
 use lib.ListN.{getD}
 use lib.Dec.{ltb, leb, eqb}
-use Rattle.event_log.specs.Log.{Kind, plain, rising as risingField, Event}
-use Rattle.formula.specs.Formula.{Operator, equal, unequal, less, greater, atmost, atleast, Clause, TEST, TESTV, BIND, Step, Expr, CONST, VAR, COUNT, ADD, SUB, LESS, ATMOST, EQUAL, NOT, AND, OR, IF}
+use Rattle.event_log.specs.Log.{Kind, plain, rising as risingField, Values}
+use Rattle.formula.specs.Formula.{Operator, equal, unequal, less, greater, atmost, atleast, Clause, TEST, TESTV, BIND, Step}
+use Rattle.formula.specs.Formula.{Leaf, CONST, VAR, COUNT, Expr, LEAF, ADD, SUB, LESS, ATMOST, EQUAL, NOT, AND, OR, IF}
 use Rattle.machine.specs.Configuration.{Config}
 use Rattle.machine.specs.Guard.{guardHolds}
 use Rattle.machine.specs.Firing.{field, valueOf, isHeld, leave}
@@ -18,7 +19,7 @@ isRising risingField = true
 
 -- field f is rising; the fields' kinds are given
 abbrev pub rises : List Kind → ℕ → Bool
-rises kinds f = isRising (getD kinds f plain)
+rises fields f = isRising (getD fields f plain)
 
 -- the field of the step's first BIND of v
 abbrev pub firstBind : List Clause → ℕ → Option ℕ
@@ -28,46 +29,51 @@ firstBind (TESTV f o u ∷ ks) v = firstBind ks v
 firstBind (BIND f u ∷ ks) v = cond (eqb u v) (some f) (firstBind ks v)
 
 abbrev pub fieldRises : List Kind → Option ℕ → Bool
-fieldRises kinds none = false
-fieldRises kinds (some f) = rises kinds f
+fieldRises fields none = false
+fieldRises fields (some f) = rises fields f
 
--- in configuration c, at a step with these clauses
+-- "constants, counters and held variables are both; a variable not held is rising if its first BIND is of a rising field,
+-- else neither": in configuration c, at a step with these clauses
+abbrev pub leafRises : List Kind → Config → List Clause → Leaf → Bool
+leafRises fields c ks (CONST x) = true
+leafRises fields c ks (VAR v) = isHeld c v || fieldRises fields (firstBind ks v)
+leafRises fields c ks (COUNT s) = true
+
+abbrev pub leafFalls : List Kind → Config → List Clause → Leaf → Bool
+leafFalls fields c ks (CONST x) = true
+leafFalls fields c ks (VAR v) = isHeld c v
+leafFalls fields c ks (COUNT s) = true
+
 unfoldable mutual
   pub rising : List Kind → Config → List Clause → Expr → Bool
-  -- "constants, counters and held variables are both; a variable not held is rising if its first BIND is of a rising field,
-  -- else neither"
-  rising kinds c ks (CONST x) = true
-  rising kinds c ks (VAR v) = isHeld c v || fieldRises kinds (firstBind ks v)
-  rising kinds c ks (COUNT s) = true
+  rising fields c ks (LEAF l) = leafRises fields c ks l
   -- "ADD, AND, OR keep what both operands are"
-  rising kinds c ks (ADD a b) = rising kinds c ks a && rising kinds c ks b
+  rising fields c ks (ADD a b) = rising fields c ks a && rising fields c ks b
   -- "SUB is rising if the first operand is rising and the second falling, and falling if the reverse"
-  rising kinds c ks (SUB a b) = rising kinds c ks a && falling kinds c ks b
+  rising fields c ks (SUB a b) = rising fields c ks a && falling fields c ks b
   -- "LESS and ATMOST are rising if the first is falling and the second rising, and falling if the reverse"
-  rising kinds c ks (LESS a b) = falling kinds c ks a && rising kinds c ks b
-  rising kinds c ks (ATMOST a b) = falling kinds c ks a && rising kinds c ks b
+  rising fields c ks (LESS a b) = falling fields c ks a && rising fields c ks b
+  rising fields c ks (ATMOST a b) = falling fields c ks a && rising fields c ks b
   -- "EQUAL is both if both operands are both, else neither"
-  rising kinds c ks (EQUAL a b) = (rising kinds c ks a && falling kinds c ks a) && (rising kinds c ks b && falling kinds c ks b)
+  rising fields c ks (EQUAL a b) = (rising fields c ks a && falling fields c ks a) && (rising fields c ks b && falling fields c ks b)
   -- "NOT exchanges them"
-  rising kinds c ks (NOT a) = falling kinds c ks a
-  rising kinds c ks (AND a b) = rising kinds c ks a && rising kinds c ks b
-  rising kinds c ks (OR a b) = rising kinds c ks a && rising kinds c ks b
+  rising fields c ks (NOT a) = falling fields c ks a
+  rising fields c ks (AND a b) = rising fields c ks a && rising fields c ks b
+  rising fields c ks (OR a b) = rising fields c ks a && rising fields c ks b
   -- "IF needs its condition to be both, then keeps what both branches are"
-  rising kinds c ks (IF a b d) = (rising kinds c ks a && falling kinds c ks a) && (rising kinds c ks b && rising kinds c ks d)
+  rising fields c ks (IF a b d) = (rising fields c ks a && falling fields c ks a) && (rising fields c ks b && rising fields c ks d)
 
   pub falling : List Kind → Config → List Clause → Expr → Bool
-  falling kinds c ks (CONST x) = true
-  falling kinds c ks (VAR v) = isHeld c v
-  falling kinds c ks (COUNT s) = true
-  falling kinds c ks (ADD a b) = falling kinds c ks a && falling kinds c ks b
-  falling kinds c ks (SUB a b) = falling kinds c ks a && rising kinds c ks b
-  falling kinds c ks (LESS a b) = rising kinds c ks a && falling kinds c ks b
-  falling kinds c ks (ATMOST a b) = rising kinds c ks a && falling kinds c ks b
-  falling kinds c ks (EQUAL a b) = (rising kinds c ks a && falling kinds c ks a) && (rising kinds c ks b && falling kinds c ks b)
-  falling kinds c ks (NOT a) = rising kinds c ks a
-  falling kinds c ks (AND a b) = falling kinds c ks a && falling kinds c ks b
-  falling kinds c ks (OR a b) = falling kinds c ks a && falling kinds c ks b
-  falling kinds c ks (IF a b d) = (rising kinds c ks a && falling kinds c ks a) && (falling kinds c ks b && falling kinds c ks d)
+  falling fields c ks (LEAF l) = leafFalls fields c ks l
+  falling fields c ks (ADD a b) = falling fields c ks a && falling fields c ks b
+  falling fields c ks (SUB a b) = falling fields c ks a && rising fields c ks b
+  falling fields c ks (LESS a b) = rising fields c ks a && falling fields c ks b
+  falling fields c ks (ATMOST a b) = rising fields c ks a && falling fields c ks b
+  falling fields c ks (EQUAL a b) = (rising fields c ks a && falling fields c ks a) && (rising fields c ks b && falling fields c ks b)
+  falling fields c ks (NOT a) = rising fields c ks a
+  falling fields c ks (AND a b) = falling fields c ks a && falling fields c ks b
+  falling fields c ks (OR a b) = falling fields c ks a && falling fields c ks b
+  falling fields c ks (IF a b d) = (rising fields c ks a && falling fields c ks a) && (falling fields c ks b && falling fields c ks d)
 
 -- a test with less or at most that is false
 abbrev pub missed : Operator → ℕ → ℕ → Bool
@@ -79,22 +85,22 @@ missed atmost x y = not (leb x y)
 missed atleast x y = false
 
 -- "a TEST or TESTV with less or at most on a rising field is false on n": x has the values by which the step is judged
-abbrev pub pastDue : List Kind → Config → Event → Clause → Bool
-pastDue kinds c x (TEST f o y) = rises kinds f && missed o (field x f) y
-pastDue kinds c x (TESTV f o v) = rises kinds f && missed o (field x f) (valueOf c v)
-pastDue kinds c x (BIND f v) = false
+abbrev pub pastDue : List Kind → Config → Values → Clause → Bool
+pastDue fields c x (TEST f o y) = rises fields f && missed o (field x f) y
+pastDue fields c x (TESTV f o v) = rises fields f && missed o (field x f) (valueOf c v)
+pastDue fields c x (BIND f v) = false
 
-abbrev pub anyPastDue : List Kind → Config → Event → List Clause → Bool
-anyPastDue kinds c x [] = false
-anyPastDue kinds c x (k ∷ ks) = pastDue kinds c x k || anyPastDue kinds c x ks
+abbrev pub anyPastDue : List Kind → Config → Values → List Clause → Bool
+anyPastDue fields c x [] = false
+anyPastDue fields c x (k ∷ ks) = pastDue fields c x k || anyPastDue fields c x ks
 
 -- the guard is falling; a step without a guard has none that falls
 abbrev pub guardFalls : List Kind → Config → List Clause → Option Expr → Bool
-guardFalls kinds c ks none = false
-guardFalls kinds c ks (some g) = falling kinds c ks g
+guardFalls fields c ks none = false
+guardFalls fields c ks (some g) = falling fields c ks g
 
 -- "A step is hopeless after event n if a TEST or TESTV with less or at most on a rising field is false on n, or its guard is
 -- falling and is 0 with held values and, for variables not held, the field of the step's first BIND of it on n. Counters in
 -- that guard include the step's own": the values and counters of the configuration that the step would leave
-unfoldable pub expired : List Kind → Config → Step → Event → Bool
-expired kinds c s x = anyPastDue kinds c x (s .clauses) || (guardFalls kinds c (s .clauses) (s .guard) && not (guardHolds ((leave c s x) .values) ((leave c s x) .counters) (s .guard)))
+unfoldable pub expired : List Kind → Config → Step → Values → Bool
+expired fields c s x = anyPastDue fields c x (s .clauses) || (guardFalls fields c (s .clauses) (s .guard) && not (guardHolds (leave c s x) (s .guard)))

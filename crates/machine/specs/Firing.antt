@@ -5,7 +5,7 @@ use mathlib.Core.List.{List, [], _∷_}
 use mathlib.Core.Option.{Option, none, some}
 use lib.ListN.{getD, set}
 use lib.Dec.{ltb, leb, eqb}
-use Rattle.event_log.specs.Log.{Event}
+use Rattle.event_log.specs.Log.{Values}
 use Rattle.formula.specs.Formula.{Operator, equal, unequal, less, greater, atmost, atleast, Clause, TEST, TESTV, BIND, Step}
 use Rattle.machine.specs.Configuration.{Config, addOne}
 use Rattle.machine.specs.Guard.{guardHolds}
@@ -20,7 +20,7 @@ holds atmost x y = leb x y
 holds atleast x y = leb y x
 
 -- an event's value of a field
-abbrev pub field : Event → ℕ → ℕ
+abbrev pub field : Values → ℕ → ℕ
 field e f = getD e f 0
 
 -- a variable's value, and whether it is held
@@ -35,35 +35,40 @@ unfoldable pub hold : Config → ℕ → ℕ → Config
 hold c v x = cond (isHeld c v) c (record { state = c .state; held = set (c .held) v true; values = set (c .values) v x; counters = c .counters })
 
 -- a BIND binds its variable to its field
-abbrev pub bind : Config → Event → Clause → Config
+abbrev pub bind : Config → Values → Clause → Config
 bind c e (TEST f o x) = c
 bind c e (TESTV f o v) = c
 bind c e (BIND f v) = hold c v (field e f)
 
 -- the values after binding: held ones stay, any other variable takes the field of the step's first BIND of it
-abbrev pub bindAll : Config → Event → List Clause → Config
+abbrev pub bindAll : Config → Values → List Clause → Config
 bindAll c e [] = c
 bindAll c e (k ∷ ks) = bindAll (bind c e k) e ks
 
 -- the configuration that the step leaves: its target, the values after binding, one added to the state being left
-unfoldable pub leave : Config → Step → Event → Config
-leave c s e = record { state = s .target; held = (bindAll c e (s .clauses)) .held; values = (bindAll c e (s .clauses)) .values; counters = addOne (c .counters) (c .state) }
+unfoldable pub leave : Config → Step → Values → Config
+leave c s e = record {
+  state = s .target;
+  held = (bindAll c e (s .clauses)) .held;
+  values = (bindAll c e (s .clauses)) .values;
+  counters = addOne (c .counters) (c .state);
+}
 
 -- "every TEST holds, every TESTV holds against values held before, every BIND agrees with a value held before or bound by
 -- another BIND of the step": c is the configuration before, d the one that the step leaves
-abbrev pub passes : Config → Config → Event → Clause → Bool
+abbrev pub passes : Config → Config → Values → Clause → Bool
 passes c d e (TEST f o x) = holds o (field e f) x
 passes c d e (TESTV f o v) = holds o (field e f) (valueOf c v)
 passes c d e (BIND f v) = eqb (field e f) (valueOf d v)
 
-abbrev pub allPass : Config → Config → Event → List Clause → Bool
+abbrev pub allPass : Config → Config → Values → List Clause → Bool
 allPass c d e [] = true
 allPass c d e (k ∷ ks) = passes c d e k && allPass c d e ks
 
 -- "The guard reads the values after binding and the counters after adding one to the state being left"
-unfoldable pub fires : Config → Step → Event → Bool
-fires c s e = allPass c (leave c s e) e (s .clauses) && guardHolds ((leave c s e) .values) ((leave c s e) .counters) (s .guard)
+unfoldable pub fires : Config → Step → Values → Bool
+fires c s e = allPass c (leave c s e) e (s .clauses) && guardHolds (leave c s e) (s .guard)
 
 -- what the step leaves, if it fires on the event
-unfoldable pub fire : Config → Step → Event → Option Config
+unfoldable pub fire : Config → Step → Values → Option Config
 fire c s e = cond (fires c s e) (some (leave c s e)) none

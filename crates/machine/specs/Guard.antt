@@ -1,11 +1,11 @@
--- "Expressions": the value of a guard, from the variables' values and the states' counters.
+-- "Expressions": the value of a guard in a configuration.
 use Prim.Native.Nat.{ℕ, _+_, _-_, min}
 use mathlib.Core.Bool.{Bool, true, false, not, _&&_, _||_, cond}
-use mathlib.Core.List.{List}
 use mathlib.Core.Option.{Option, none, some}
 use lib.ListN.{getD}
 use lib.Dec.{ltb, leb, eqb}
-use Rattle.formula.specs.Formula.{Expr, CONST, VAR, COUNT, ADD, SUB, LESS, ATMOST, EQUAL, NOT, AND, OR, IF}
+use Rattle.formula.specs.Formula.{Leaf, CONST, VAR, COUNT, Expr, LEAF, ADD, SUB, LESS, ATMOST, EQUAL, NOT, AND, OR, IF}
+use Rattle.machine.specs.Configuration.{Config}
 
 -- "nonzero is true"
 abbrev pub truth : ℕ → Bool
@@ -16,22 +16,26 @@ abbrev pub bit : Bool → ℕ
 bit true = 1
 bit false = 0
 
+-- a constant, a variable's value, a state's counter
+abbrev pub leaf : Config → Leaf → ℕ
+leaf c (CONST x) = x
+leaf c (VAR v) = getD (c .values) v 0
+leaf c (COUNT s) = getD (c .counters) s 0
+
 -- "ADD stops at 4294967295 and SUB at 0"
-unfoldable pub value : List ℕ → List ℕ → Expr → ℕ
-value values counters (CONST x) = x
-value values counters (VAR v) = getD values v 0
-value values counters (COUNT s) = getD counters s 0
-value values counters (ADD a b) = min (value values counters a + value values counters b) 4294967295
-value values counters (SUB a b) = value values counters a - value values counters b
-value values counters (LESS a b) = bit (ltb (value values counters a) (value values counters b))
-value values counters (ATMOST a b) = bit (leb (value values counters a) (value values counters b))
-value values counters (EQUAL a b) = bit (eqb (value values counters a) (value values counters b))
-value values counters (NOT a) = bit (not (truth (value values counters a)))
-value values counters (AND a b) = bit (truth (value values counters a) && truth (value values counters b))
-value values counters (OR a b) = bit (truth (value values counters a) || truth (value values counters b))
-value values counters (IF a b d) = cond (truth (value values counters a)) (value values counters b) (value values counters d)
+unfoldable pub value : Config → Expr → ℕ
+value c (LEAF l) = leaf c l
+value c (ADD a b) = min (value c a + value c b) 4294967295
+value c (SUB a b) = value c a - value c b
+value c (LESS a b) = bit (ltb (value c a) (value c b))
+value c (ATMOST a b) = bit (leb (value c a) (value c b))
+value c (EQUAL a b) = bit (eqb (value c a) (value c b))
+value c (NOT a) = bit (not (truth (value c a)))
+value c (AND a b) = bit (truth (value c a) && truth (value c b))
+value c (OR a b) = bit (truth (value c a) || truth (value c b))
+value c (IF a b d) = cond (truth (value c a)) (value c b) (value c d)
 
 -- "the guard is nonzero; no guard means true"
-abbrev pub guardHolds : List ℕ → List ℕ → Option Expr → Bool
-guardHolds values counters none = true
-guardHolds values counters (some g) = truth (value values counters g)
+abbrev pub guardHolds : Config → Option Expr → Bool
+guardHolds c none = true
+guardHolds c (some g) = truth (value c g)

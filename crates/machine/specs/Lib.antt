@@ -3,5 +3,5 @@ pub mod Configuration
 pub mod Guard
 pub mod Firing
 pub mod Expiry
-pub mod Walk
 pub mod Machine
+pub mod inner

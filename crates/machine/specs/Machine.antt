@@ -1,10 +1,11 @@
 -- The machine that a log and a formula make: its steps by number, on events by number.
 use Prim.Native.Nat.{ℕ}
 use mathlib.Core.Bool.{Bool, true, false}
-use mathlib.Core.List.{[]}
+use mathlib.Core.List.{List}
 use mathlib.Core.Option.{Option, none, some}
-use lib.ListN.{length, getD, getElem?}
-use Rattle.event_log.specs.Log.{Log, Event}
+use lib.ListN.{length, getElem?}
+use Rattle.event_log.specs.Log.{Kind, Values, Log, eventAt}
+use Rattle.event_log.specs.Latest.{latest}
 use Rattle.formula.specs.Formula.{Formula, State, StateKind, ordinary, committed as committedKind, accept, reject, Step}
 use Rattle.formula.specs.Correct.{isFinal}
 use Rattle.formula.specs.Lookup.{stepAt}
@@ -13,29 +14,21 @@ use Rattle.machine.specs.Configuration.{Config, same, start}
 use Rattle.machine.specs.Firing.{fire}
 use Rattle.machine.specs.Expiry.{expired}
 
--- event n
-unfoldable pub eventAt : Log → ℕ → Event
-eventAt log n = getD (log .events) n []
-
--- the values by which a step is judged expired after event n: those of the event
-unfoldable pub latest : Log → ℕ → Event
-latest log n = eventAt log n
-
-abbrev pub fireBy : Option Step → Config → Event → Option Config
+abbrev pub fireBy : Option Step → Config → Values → Option Config
 fireBy none c e = none
 fireBy (some s) c e = fire c s e
 
 -- what step k leaves on event n, if it fires
 unfoldable pub fireAt : Log → Formula → Config → ℕ → ℕ → Option Config
-fireAt log formula c n k = fireBy (stepAt formula (c .state) k) c (eventAt log n)
+fireAt log formula c n k = fireBy (stepAt formula (c .state) k) c ((eventAt log n) .values)
 
-abbrev pub expiredBy : Log → Option Step → Config → Event → Bool
-expiredBy log none c x = true
-expiredBy log (some s) c x = expired (log .fields) c s x
+abbrev pub expiredBy : List Kind → Option Step → Config → Values → Bool
+expiredBy fields none c x = true
+expiredBy fields (some s) c x = expired fields c s x
 
 -- step k is expired (the paper's hopeless) after event n; so is a step that the state lacks
 unfoldable pub expiredAt : Log → Formula → Config → ℕ → ℕ → Bool
-expiredAt log formula c k n = expiredBy log (stepAt formula (c .state) k) c (latest log n)
+expiredAt log formula c k n = expiredBy (log .fields) (stepAt formula (c .state) k) c (latest log n)
 
 abbrev pub isCommitted : StateKind → Bool
 isCommitted ordinary = false

@@ -2,13 +2,14 @@
 -- it says what the literal order of runs says.
 use mathlib.Core.Path.{_≡_, refl, sym, ap, ap₂, _∙_, subst}
 use mathlib.Core.Logic.{_⊎_, inl, inr}
-use mathlib.Core.List.{List, [], _∷_, _++_, map, head-eq-of-cons-eq, tail-eq-of-cons-eq, nil≢cons}
+use mathlib.Core.List.{List, [], _∷_, _++_, map, map-append, head-eq-of-cons-eq, tail-eq-of-cons-eq, nil≢cons}
 use Prim.Native.Nat.{ℕ, zero, suc, _≤_, _<_, suc-le-suc, compare, Ordering, Ordering·lt, Ordering·eq, Ordering·gt, compare·zero-zero, compare·zero-suc, compare·suc-zero, compare·suc-suc}
 use native.Mathlib.Nat.{le-of-suc-le-suc, not-suc-le-zero, zero-lt-suc, suc-inj}
 use native.Mathlib.Omega.{arith}
-use lib.ListN.{length}
+use lib.ListN.{length, length-map}
 use Rattle.runs.specs.Run.{Entry, Trail, lastOr, last}
-use Rattle.runs.specs.Order.{events, numbers, then, lex, order, Higher, Later, ends-later, later-event, higher-number}
+use Rattle.runs.specs.Order.{events, numbers, Higher, Later, ends-later, later-event, higher-number}
+use Rattle.runs.specs.inner.Order.{then, lex, order}
 
 abbrev IsLt : Ordering → Type 0
 IsLt Ordering·lt = Unit {0}
@@ -61,10 +62,12 @@ record Linear {A : Type 0} (cmp : A → A → Ordering) : Type 0 where
   turn : (a b : A) → cmp b a ≡ flip (cmp a b)
   trans : (a b c : A) → cmp a b ≡ Ordering·lt → cmp b c ≡ Ordering·lt → cmp a c ≡ Ordering·lt
 
-then-trans : {A : Type 0} (cmp : A → A → Ordering) (lin : Linear cmp) (a b c : A) (p q r : Ordering) → (p ≡ Ordering·lt → q ≡ Ordering·lt → r ≡ Ordering·lt) → then (cmp a b) p ≡ Ordering·lt → then (cmp b c) q ≡ Ordering·lt → then (cmp a c) r ≡ Ordering·lt
+then-trans : {A : Type 0} (cmp : A → A → Ordering) (lin : Linear cmp) (a b c : A) (p q r : Ordering) → (p ≡ Ordering·lt → q ≡ Ordering·lt → r ≡ Ordering·lt)
+    → then (cmp a b) p ≡ Ordering·lt → then (cmp b c) q ≡ Ordering·lt → then (cmp a c) r ≡ Ordering·lt
 then-trans {A} cmp lin a b c p q r h e f = go (then-lt (cmp a b) p e) (then-lt (cmp b c) q f)
   where
-    go : (cmp a b ≡ Ordering·lt) ⊎ ((cmp a b ≡ Ordering·eq) × (p ≡ Ordering·lt)) → (cmp b c ≡ Ordering·lt) ⊎ ((cmp b c ≡ Ordering·eq) × (q ≡ Ordering·lt)) → then (cmp a c) r ≡ Ordering·lt
+    go : (cmp a b ≡ Ordering·lt) ⊎ ((cmp a b ≡ Ordering·eq) × (p ≡ Ordering·lt)) → (cmp b c ≡ Ordering·lt) ⊎ ((cmp b c ≡ Ordering·eq) × (q ≡ Ordering·lt))
+        → then (cmp a c) r ≡ Ordering·lt
     go (inl x) (inl y) = ap (λ o. then o r) (lin .trans a b c x y)
     go (inl x) (inr y) = ap (λ o. then o r) (subst (λ z. cmp a z ≡ Ordering·lt) (lin .equal b c (y .0)) x)
     go (inr x) (inl y) = ap (λ o. then o r) (subst (λ z. cmp z c ≡ Ordering·lt) (sym (lin .equal a b (x .0))) y)
@@ -154,22 +157,14 @@ lex-append (x ∷ xs) (y ∷ ys) zs h = ap (λ o. then (compare x y) o) (lex-app
 
 -- ---- trails
 
-map-append : (f : Entry → ℕ) (t u : Trail) → map f (t ++ u) ≡ map f t ++ map f u
-map-append f [] u = refl
-map-append f (x ∷ t) u = ap (λ r. f x ∷ r) (map-append f t u)
-
-map-length : (f : Entry → ℕ) (t u : Trail) → length t ≡ length u → length (map f t) ≡ length (map f u)
-map-length f [] [] h = refl
-map-length f [] (y ∷ u) h = absurd (omega (arith, h))
-map-length f (x ∷ t) [] h = absurd (omega (arith, h))
-map-length f (x ∷ t) (y ∷ u) h = ap suc (map-length f t u (suc-inj h))
-
 trail-equal : (t u : Trail) → events t ≡ events u → numbers t ≡ numbers u → t ≡ u
 trail-equal [] [] e f = refl
 trail-equal [] (y ∷ u) e f = absurd (nil≢cons e)
 trail-equal (x ∷ t) [] e f = absurd (nil≢cons (sym e))
 trail-equal (x ∷ t) (y ∷ u) e f =
-    ap₂ {A = Entry} {B = Trail} {C = Trail} _∷_ (λ i. record { event = head-eq-of-cons-eq e i; step = head-eq-of-cons-eq f i }) (trail-equal t u (tail-eq-of-cons-eq e) (tail-eq-of-cons-eq f))
+    ap₂ {A =
+    Entry} {B = Trail} {C = Trail} _∷_ (λ i. record { event = head-eq-of-cons-eq e i; step = head-eq-of-cons-eq f i }) (trail-equal t u
+    (tail-eq-of-cons-eq e) (tail-eq-of-cons-eq f))
 
 order-equal : (t u : Trail) → order t u ≡ Ordering·eq → t ≡ u
 unfolding lex order
@@ -179,7 +174,8 @@ order-equal t u e =
 
 order-turn : (t u : Trail) → order u t ≡ flip (order t u)
 unfolding order lex
-order-turn t u = ap₂ then (lex-turn (events t) (events u)) (lex-turn (numbers t) (numbers u)) ∙ then-flip (lex (events t) (events u)) (lex (numbers t) (numbers u))
+order-turn t u =
+    ap₂ then (lex-turn (events t) (events u)) (lex-turn (numbers t) (numbers u)) ∙ then-flip (lex (events t) (events u)) (lex (numbers t) (numbers u))
 
 order-trans : (t u v : Trail) → order t u ≡ Ordering·lt → order u v ≡ Ordering·lt → order t v ≡ Ordering·lt
 unfolding lex order
@@ -193,7 +189,7 @@ unfolding order lex
 order-append t u v h = ap₂ then (key (λ (x : Entry). x .event)) (key (λ (x : Entry). x .step))
   where
     key : (f : Entry → ℕ) → lex (map f (t ++ v)) (map f (u ++ v)) ≡ lex (map f t) (map f u)
-    key f = ap₂ lex (map-append f t v) (map-append f u v) ∙ lex-append (map f t) (map f u) (map f v) (map-length f t u h)
+    key f = ap₂ lex (map-append f t v) (map-append f u v) ∙ lex-append (map f t) (map f u) (map f v) (length-map t f ∙ h ∙ sym (length-map u f))
 
 -- ---- at most as late
 
@@ -266,7 +262,8 @@ higher-here : (x y : ℕ) (xs ys : List ℕ) → x < y → Higher (x ∷ xs) (y 
 higher-here x y xs ys h = record { shared = []; low = x; high = y; xs-rest = xs; ys-rest = ys; xs-is = refl; ys-is = refl; rises = h }
 
 -- two lists with heads compared and, where these are equal, tails judged by what is known of them
-higher-or : (x y : ℕ) (xs ys : List ℕ) → (x ≡ y → lex xs ys ≡ Ordering·lt → Higher xs ys) → then (compare x y) (lex xs ys) ≡ Ordering·lt → Higher (x ∷ xs) (y ∷ ys)
+higher-or : (x y : ℕ) (xs ys : List ℕ) → (x ≡ y → lex xs ys ≡ Ordering·lt → Higher xs ys) → then (compare x y) (lex xs ys) ≡ Ordering·lt
+    → Higher (x ∷ xs) (y ∷ ys)
 higher-or x y xs ys ih e = go (then-lt (compare x y) (lex xs ys) e)
   where
     go : (compare x y ≡ Ordering·lt) ⊎ ((compare x y ≡ Ordering·eq) × (lex xs ys ≡ Ordering·lt)) → Higher (x ∷ xs) (y ∷ ys)
@@ -289,7 +286,8 @@ pub rising-last : (a : ℕ) (t : Trail) → Rising (suc a) t → a ≤ lastOr a 
 rising-last a [] r = omega arith
 rising-last a (x ∷ t) r = omega (arith, r .0, rising-last (x .event) t (r .1))
 
-higher-events : (a : ℕ) (t u : Trail) → Rising (suc a) t → Rising (suc a) u → lastOr a t ≡ lastOr a u → lex (events t) (events u) ≡ Ordering·lt → Higher (events t) (events u)
+higher-events : (a : ℕ) (t u : Trail) → Rising (suc a) t → Rising (suc a) u → lastOr a t ≡ lastOr a u → lex (events t) (events u) ≡ Ordering·lt
+    → Higher (events t) (events u)
 unfolding lex
 higher-events a [] [] r s h e = absurd (eq≢lt e)
 higher-events a [] (y ∷ u) r s h e = absurd (omega (arith, h, s .0, rising-last (y .event) u (s .1)))
@@ -299,11 +297,14 @@ higher-events a (x ∷ t) (y ∷ u) r s h e =
     (λ q l. higher-events (x .event) t u (r .1) (subst (λ n. Rising (suc n) u) (sym q) (s .1)) (h ∙ ap (λ n. lastOr n u) (sym q)) l) e
 
 -- of two runs that begin on one event and end on one event the computed comparison finds the later
-pub order-later : (x y : Entry) (t u : Trail) → x .event ≡ y .event → Rising (suc (x .event)) t → Rising (suc (y .event)) u → last (x ∷ t) ≡ last (y ∷ u) → order (x ∷ t) (y ∷ u) ≡ Ordering·lt → Later (x ∷ t) (y ∷ u)
+pub order-later : (x y : Entry) (t u : Trail) → x .event ≡ y .event → Rising (suc (x .event)) t → Rising (suc (y .event)) u → last (x ∷ t) ≡ last (y ∷ u)
+    → order (x ∷ t) (y ∷ u) ≡ Ordering·lt → Later (x ∷ t) (y ∷ u)
 unfolding lex order
 order-later x y t u b r s h e = go (then-lt (lex (events (x ∷ t)) (events (y ∷ u))) (lex (numbers (x ∷ t)) (numbers (y ∷ u))) e)
   where
-    go : (lex (events (x ∷ t)) (events (y ∷ u)) ≡ Ordering·lt) ⊎ ((lex (events (x ∷ t)) (events (y ∷ u)) ≡ Ordering·eq) × (lex (numbers (x ∷ t)) (numbers (y ∷ u)) ≡ Ordering·lt)) → Later (x ∷ t) (y ∷ u)
+    go : (lex (events (x ∷ t)) (events (y ∷ u)) ≡ Ordering·lt)
+        ⊎ ((lex (events (x ∷ t)) (events (y ∷ u)) ≡ Ordering·eq) × (lex (numbers (x ∷ t)) (numbers (y ∷ u)) ≡ Ordering·lt))
+        → Later (x ∷ t) (y ∷ u)
     go (inl l) =
         later-event h
         (higher-or (x .event) (y .event) (events t) (events u)

@@ -5,9 +5,10 @@ use mathlib.Core.List.{List}
 use Prim.Native.Nat.{ℕ, zero, suc, _≤_, _<_}
 use native.Mathlib.Nat.{eq-or-lt-of-le}
 use native.Mathlib.Omega.{arith}
-use Rattle.runs.specs.Machine.{Machine, Laws}
+use Rattle.runs.specs.Machine.{Machine}
+use Rattle.runs.specs.inner.Laws.{Laws}
 use Rattle.runs.specs.Waiting.{Count}
-use Rattle.runs.specs.Search.{Thread, next, waitingCount, origin}
+use Rattle.runs.specs.inner.Search.{Thread, next, waitingCount, origin}
 use Rattle.runs.proofs.Reach.{Exact, exact-next, exact-origin, exact-count}
 
 module _ (M : Machine) (L : Laws M) where

@@ -1,27 +1,22 @@
 -- Laws in the shape in which loops meet them: the endings and the candidates of a list of threads, one thread and one step
 -- number at a time.
-use mathlib.Core.Path.{_≡_, refl, sym, ap, _∙_}
+use mathlib.Core.Path.{_≡_, refl, ap, _∙_}
 use mathlib.Core.Bool.{Bool, true, false, _&&_}
 use mathlib.Core.Option.{Option, none, some}
-use mathlib.Core.List.{List, [], _∷_, _++_, append-nil, append-assoc, nil≢cons}
+use mathlib.Core.List.{List, [], _∷_, _++_, nil≢cons}
 use Prim.Native.Nat.{ℕ, suc, _<_}
 use native.Mathlib.Omega.{arith}
 use lib.ListN.{take}
-use Rattle.runs.specs.Lists.{only, keep, gather}
+use Rattle.runs.specs.inner.Lists.{only, keep, gather}
 use Rattle.runs.specs.Machine.{Machine}
 use Rattle.runs.specs.Run.{Quiet}
-use Rattle.runs.specs.Search.{Thread, begun, arrive, firing, chosen, moves, passes, stays, unended, offers, next, ended, lesser, leastFrom, hopeful}
-use Rattle.runs.specs.Threads.{candidates}
+use Rattle.runs.specs.inner.Search.{Thread, begun, arrive, firing, chosen, moves, passes, stays, offers, next, ended, lesser, leastFrom, hopeful}
+use Rattle.runs.specs.inner.Threads.{candidates}
 use Rattle.runs.proofs.Moves.{stepped, first-fires, firing-quiet}
 
 -- ---- lists
 
 module _ {A : Type 0} where
-  keep-only : (p : A → Bool) (b : Bool) (x : A) (xs : List A) → keep p (only b x xs) ≡ only (b && p x) x (keep p xs)
-  unfolding keep
-  keep-only p true x xs = refl
-  keep-only p false x xs = refl
-
   pub keep-append : (p : A → Bool) (xs ys : List A) → keep p (xs ++ ys) ≡ keep p xs ++ keep p ys
   unfolding keep
   keep-append p [] ys = refl
@@ -30,11 +25,6 @@ module _ {A : Type 0} where
       go : (b : Bool) → keep p (xs ++ ys) ≡ keep p xs ++ keep p ys → only b x (keep p (xs ++ ys)) ≡ only b x (keep p xs) ++ keep p ys
       go true e = ap (λ r. x ∷ r) e
       go false e = e
-
-  gather-snoc : {B : Type 0} (f : B → List A) (bs : List B) (b : B) → gather f (bs ++ (b ∷ [])) ≡ gather f bs ++ f b
-  unfolding gather
-  gather-snoc f [] b = append-nil (f b)
-  gather-snoc f (x ∷ bs) b = ap (λ r. f x ++ r) (gather-snoc f bs b) ∙ sym (append-assoc (f x) (gather f bs) (f b))
 
 module _ (M : Machine) where
   open Machine M using (Config, committed, final, fire, expired, steps)
@@ -54,22 +44,21 @@ module _ (M : Machine) where
 
   -- ---- one step number more
 
-  pub firing-fires : (th : Thread M) (n k s r : ℕ) (d : Config) → s ≡ suc r → fire (th .config) n k ≡ some d → firing M th n k s ≡ stepped M th n k d ∷ firing M th n (suc k) r
+  pub firing-fires : (th : Thread M) (n k s r : ℕ) (d : Config) → s ≡ suc r → fire (th .config) n k ≡ some d
+      → firing M th n k s ≡ stepped M th n k d ∷ firing M th n (suc k) r
   unfolding firing
   firing-fires th n k s r d q e = ap (firing M th n k) q ∙ ap (λ o. arrive M th n k o (firing M th n (suc k) r)) e
 
   -- an ending counts, any other target does not
-  pub ending-final : (best : Option (Thread M)) (x : Thread M) (xs : List (Thread M)) → final (x .config) ≡ true → leastFrom M best (keep (ended M) (x ∷ xs)) ≡ leastFrom M (some (lesser M best x)) (keep (ended M) xs)
+  pub ending-final : (best : Option (Thread M)) (x : Thread M) (xs : List (Thread M)) → final (x .config) ≡ true
+      → leastFrom M best (keep (ended M) (x ∷ xs)) ≡ leastFrom M (some (lesser M best x)) (keep (ended M) xs)
   unfolding keep leastFrom
   ending-final best x xs f = ap (λ b. leastFrom M best (only b x (keep (ended M) xs))) f
 
-  pub ending-open : (best : Option (Thread M)) (x : Thread M) (xs : List (Thread M)) → final (x .config) ≡ false → leastFrom M best (keep (ended M) (x ∷ xs)) ≡ leastFrom M best (keep (ended M) xs)
+  pub ending-open : (best : Option (Thread M)) (x : Thread M) (xs : List (Thread M)) → final (x .config) ≡ false
+      → leastFrom M best (keep (ended M) (x ∷ xs)) ≡ leastFrom M best (keep (ended M) xs)
   unfolding keep
   ending-open best x xs f = ap (λ b. leastFrom M best (only b x (keep (ended M) xs))) f
-
-  -- of the targets those count that may wait after n
-  abbrev pub offered : ℕ → List (Thread M) → List (Thread M)
-  offered n xs = keep (hopeful M n) (keep (unended M) xs)
 
   -- ---- committed: none or the one lowest
 
@@ -85,14 +74,18 @@ module _ (M : Machine) where
       go true = refl
       go false = refl
 
-  pub moves-lowest : (n : ℕ) (th : Thread M) (k : ℕ) (d : Config) → committed (th .config) ≡ true → k < steps → fire (th .config) n k ≡ some d → ((j : ℕ) → j < k → fire (th .config) n j ≡ none) → moves M n th ≡ stepped M th n k d ∷ []
+  pub moves-lowest : (n : ℕ) (th : Thread M) (k : ℕ) (d : Config) → committed (th .config) ≡ true → k < steps → fire (th .config) n k ≡ some d
+      → ((j : ℕ) → j < k → fire (th .config) n j ≡ none) → moves M n th ≡ stepped M th n k d ∷ []
   unfolding moves
   moves-lowest n th k d c h e low = ap (λ b. chosen M b (firing M th n 0 steps)) c ∙ first-fires M th n 0 steps k d (omega arith) (omega (arith, h)) e low
 
   -- a committed thread does not stay where a step fires
-  pub leaves : (n : ℕ) (th : Thread M) (k : ℕ) (d : Config) → committed (th .config) ≡ true → k < steps → fire (th .config) n k ≡ some d → ((j : ℕ) → j < k → fire (th .config) n j ≡ none) → stays M n th ≡ false
+  pub leaves : (n : ℕ) (th : Thread M) (k : ℕ) (d : Config) → committed (th .config) ≡ true → k < steps → fire (th .config) n k ≡ some d
+      → ((j : ℕ) → j < k → fire (th .config) n j ≡ none) → stays M n th ≡ false
   unfolding stays
-  leaves n th k d c h e low = ap (λ b. begun (th .trail) && passes M b (firing M th n 0 steps)) c ∙ go (firing M th n 0 steps) (first-fires M th n 0 steps k d (omega arith) (omega (arith, h)) e low)
+  leaves n th k d c h e low =
+      ap (λ b. begun (th .trail) && passes M b (firing M th n 0 steps)) c
+      ∙ go (firing M th n 0 steps) (first-fires M th n 0 steps k d (omega arith) (omega (arith, h)) e low)
     where
       right : (b : Bool) → (b && false) ≡ false
       right true = refl
@@ -101,4 +94,3 @@ module _ (M : Machine) where
       go : (l : List (Thread M)) → take 1 l ≡ stepped M th n k d ∷ [] → (begun (th .trail) && passes M true l) ≡ false
       go [] q = absurd (nil≢cons q)
       go (x ∷ l) q = right (begun (th .trail))
-      -- ---- tests

@@ -6,8 +6,8 @@ use mathlib.Core.List.{List, [], _∷_, List·Memᴰ·head, List·Memᴰ·tail, 
 use Prim.Native.Nat.{Ordering, Ordering·lt, Ordering·eq, Ordering·gt}
 use Rattle.runs.specs.Lists.{In}
 use Rattle.runs.specs.Machine.{Machine}
-use Rattle.runs.specs.Order.{order}
-use Rattle.runs.specs.Search.{Thread, pick, lesser, leastFrom, least}
+use Rattle.runs.specs.inner.Order.{order}
+use Rattle.runs.specs.inner.Search.{Thread, pick, lesser, leastFrom, least}
 use Rattle.runs.proofs.Comparison.{AtMost, at-most-self, at-most-trans, at-most-antisym, first-at-most, second-at-most, lt≢gt, eq≢gt}
 
 abbrev IsNone : {A : Type 0} → Option A → Type 0
@@ -70,11 +70,13 @@ module _ (M : Machine) where
       to = l .least (lesser M (some a) b) (List·Memᴰ·head refl)
 
       rest : (x : Thread M) → (x ≡ b) ⊎ In x xs → AtMost (m .trail) (x .trail)
-      rest x (inl e) = subst (λ (y : Thread M). AtMost (m .trail) (y .trail)) (sym e) (at-most-trans (m .trail) (lesser M (some a) b .trail) (b .trail) to (w .right))
+      rest x (inl e) =
+          subst (λ (y : Thread M). AtMost (m .trail) (y .trail)) (sym e) (at-most-trans (m .trail) (lesser M (some a) b .trail) (b .trail) to (w .right))
       rest x (inr h) = l .least x (List·Memᴰ·tail h)
 
       below : (x : Thread M) → (x ≡ a) ⊎ In x (b ∷ xs) → AtMost (m .trail) (x .trail)
-      below x (inl e) = subst (λ (y : Thread M). AtMost (m .trail) (y .trail)) (sym e) (at-most-trans (m .trail) (lesser M (some a) b .trail) (a .trail) to (w .left))
+      below x (inl e) =
+          subst (λ (y : Thread M). AtMost (m .trail) (y .trail)) (sym e) (at-most-trans (m .trail) (lesser M (some a) b .trail) (a .trail) to (w .left))
       below x (inr h) = rest x (List·Memᴰ·cases-cons h)
 
   least-from : (a : Thread M) (xs : List (Thread M)) → Has (leastFrom M (some a) xs) (a ∷ xs)
@@ -103,7 +105,8 @@ module _ (M : Machine) where
     pub under : AtMost (thread .trail) (x .trail)
 
   -- a part of a list that covers all of it has the same least member
-  pub least-agrees : (xs ys : List (Thread M)) → ((x : Thread M) → In x xs → In x ys) → ((y : Thread M) → In y ys → Under xs y) → ((x y : Thread M) → In x ys → In y ys → x .trail ≡ y .trail → x ≡ y) → least M xs ≡ least M ys
+  pub least-agrees : (xs ys : List (Thread M)) → ((x : Thread M) → In x xs → In x ys) → ((y : Thread M) → In y ys → Under xs y)
+      → ((x y : Thread M) → In x ys → In y ys → x .trail ≡ y .trail → x ≡ y) → least M xs ≡ least M ys
   least-agrees xs ys sub cover one = go (least M xs) refl (least M ys) refl
     where
       nothing : (zs : List (Thread M)) (z : Thread M) → zs ≡ [] → In z zs → ⊥
@@ -113,7 +116,8 @@ module _ (M : Machine) where
       both a b l k =
           let u = cover b (k .member) in
           one a b (sub a (l .member)) (k .member)
-          (at-most-antisym (a .trail) (b .trail) (at-most-trans (a .trail) (u .thread .trail) (b .trail) (l .least (u .thread) (u .member)) (u .under)) (k .least a (sub a (l .member))))
+          (at-most-antisym (a .trail) (b .trail) (at-most-trans (a .trail) (u .thread .trail) (b .trail) (l .least (u .thread) (u .member)) (u .under))
+          (k .least a (sub a (l .member))))
 
       go : (o : Option (Thread M)) → least M xs ≡ o → (p : Option (Thread M)) → least M ys ≡ p → least M xs ≡ least M ys
       go none e none f = e ∙ sym f

@@ -7,11 +7,11 @@ pub mod Reach
 pub mod Meets
 pub mod Counts
 pub mod Unique
-pub mod Exactly
-pub mod Insert
+pub mod LeastTrails
 pub mod Select
 pub mod Within
 pub mod Growth
-pub mod Inserting
+pub mod OneByOne
 pub mod Loop
-mod Example
+pub mod Range
+mod Examples

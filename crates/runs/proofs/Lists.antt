@@ -7,7 +7,8 @@ use Prim.Native.Nat.{suc, _≤_, zero-le}
 use native.Mathlib.Nat.{le-antisymm}
 use native.Mathlib.Omega.{arith}
 use lib.ListN.{length}
-use Rattle.runs.specs.Lists.{In, Distinct, only, keep, gather, has, distinct}
+use Rattle.runs.specs.Lists.{In, Distinct}
+use Rattle.runs.specs.inner.Lists.{only, keep, gather, has, distinct}
 
 module _ {A : Type 0} where
   -- membership in `only`: the first where the test holds, or the rest

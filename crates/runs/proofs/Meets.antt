@@ -11,11 +11,14 @@ use native.Mathlib.Omega.{arith}
 use lib.Dec.{ltb}
 use borrow.Author.Tests.{ltb-true, ltb-false}
 use Rattle.runs.specs.Lists.{In}
-use Rattle.runs.specs.Machine.{Machine, Laws}
+use Rattle.runs.specs.Machine.{Machine}
+use Rattle.runs.specs.inner.Laws.{Laws}
 use Rattle.runs.specs.Run.{Trail, last, Run}
-use Rattle.runs.specs.Order.{order, Later, ends-later}
+use Rattle.runs.specs.Order.{Later, ends-later}
+use Rattle.runs.specs.inner.Order.{order}
 use Rattle.runs.specs.Waiting.{Count}
-use Rattle.runs.specs.Search.{Thread, Answer, next, endings, least, waitingCount, overfull, outcome, scan, origin, search}
+use Rattle.runs.specs.Answer.{Answer}
+use Rattle.runs.specs.inner.Search.{Thread, next, endings, least, waitingCount, overfull, outcome, scan, origin, search}
 use Rattle.runs.specs.Demand.{Crowded, Reached, Peak, Named, Absent, Demand}
 use Rattle.runs.proofs.Lists.{same-length}
 use Rattle.runs.proofs.Comparison.{AtMost, order-later, rising-last}
@@ -29,7 +32,8 @@ module _ (M : Machine) where
   -- only one number is the number that wait
   pub count-one : (i n j k : ℕ) → Count M i n j → Count M i n k → j ≡ k
   count-one i n j k a b =
-      sym (a .counted) ∙ same-length (a .list) (b .list) (a .once) (b .once) (λ c m. b .complete c (a .sound c m)) (λ c m. a .complete c (b .sound c m)) ∙ b .counted
+      sym (a .counted) ∙ same-length (a .list) (b .list) (a .once) (b .once) (λ c m. b .complete c (a .sound c m)) (λ c m. a .complete c (b .sound c m))
+      ∙ b .counted
 
   -- a run ends on its start or later
   run-from : (i : ℕ) (t : Trail) (e : Config) → Run M i t e → i ≤ last t
@@ -44,13 +48,20 @@ module _ (M : Machine) where
     where
       go : (order (x ∷ t) (y ∷ u) ≡ Ordering·lt) ⊎ (x ∷ t ≡ y ∷ u) → (y ∷ u ≡ x ∷ t) ⊎ Later (x ∷ t) (y ∷ u)
       go (inl o) =
-          inr (order-later x y t u (r .path .begins ∙ sym (s .path .begins)) (follow-rising M start e i (x ∷ t) (r .path .follows) .1) (follow-rising M start d i (y ∷ u) (s .path .follows) .1) h o)
+          inr (order-later x y t u (r .path .begins ∙ sym (s .path .begins)) (follow-rising M start e i (x ∷ t) (r .path .follows) .1)
+          (follow-rising M start d i (y ∷ u) (s .path .follows) .1) h o)
       go (inr q) = inl (sym q)
 
   -- ---- the peak grows by one event
 
   peak-next : (i n p w : ℕ) → i ≤ n → Peak M i n p → Count M i n w → Peak M i (suc n) (max p w)
-  peak-next i n p w h k c = record { largest = λ m j f b q. up m j f q (eq-or-lt-of-le b); reached = λ b. at (decLe w p) (eq-or-lt-of-le h); nothing = λ b. absurd (omega (arith, h, b)) }
+  peak-next i n p w h k c =
+      record {
+        largest = λ m j f b q. up m j f q (eq-or-lt-of-le b);
+        reached = λ b. at (decLe w p) (eq-or-lt-of-le h);
+        nothing = λ
+            b. absurd (omega (arith, h, b));
+      }
     where
       up : (m j : ℕ) → i ≤ m → Count M i m j → (suc m ≡ suc n) ⊎ (suc m < suc n) → j ≤ max p w
       up m j f q (inl e) = omega (arith, count-one i n j w (subst (λ z. Count M i z j) (omega (arith, e)) q) c)
@@ -84,7 +95,8 @@ module _ (M : Machine) where
         peak = subst (λ m. Peak M i m p) e (b .peak);
       }
 
-  one-found : (slots i n p : ℕ) (ths : List (Thread M)) (th : Thread M) → n < events → Exact M i n ths → Before slots i n p → Least M (endings M n ths) th → Named M slots i (th .config) (th .trail) p
+  one-found : (slots i n p : ℕ) (ths : List (Thread M)) (th : Thread M) → n < events → Exact M i n ths → Before slots i n p → Least M (endings M n ths) th
+      → Named M slots i (th .config) (th .trail) p
   one-found slots i n p ths th l x b k =
       record {
         roomy = λ m c. b .roomy m (omega (arith, c .unended (th .trail) (th .config) (z .run), z .last-is)) c;
@@ -97,10 +109,13 @@ module _ (M : Machine) where
       z = endings-in M i n ths l x th (k .member)
 
       go : (u : Trail) (d : Config) → Run M i u d → (n ≡ last u) ⊎ (n < last u) → (u ≡ th .trail) ⊎ Later (th .trail) u
-      go u d r (inl e) = run-later i (th .trail) u (th .config) d (z .run) r (z .last-is ∙ e) (k .least (record { config = d; trail = u }) (endings-out M i n ths x u d r (sym e)))
+      go u d r (inl e) =
+          run-later i (th .trail) u (th .config) d (z .run) r (z .last-is ∙ e)
+          (k .least (record { config = d; trail = u }) (endings-out M i n ths x u d r (sym e)))
       go u d r (inr e) = inr (ends-later (omega (arith, e, z .last-is)))
 
-  no-ending : (i n : ℕ) (ths : List (Thread M)) → Exact M i n ths → ((u : Trail) (e : Config) → Run M i u e → n ≤ last u) → endings M n ths ≡ [] → (u : Trail) (e : Config) → Run M i u e → n < last u
+  no-ending : (i n : ℕ) (ths : List (Thread M)) → Exact M i n ths → ((u : Trail) (e : Config) → Run M i u e → n ≤ last u) → endings M n ths ≡ []
+      → (u : Trail) (e : Config) → Run M i u e → n < last u
   no-ending i n ths x b q u e r = go (eq-or-lt-of-le (b u e r))
     where
       go : (n ≡ last u) ⊎ (n < last u) → n < last u
@@ -110,7 +125,8 @@ module _ (M : Machine) where
 module _ (M : Machine) (L : Laws M) where
   open Machine M using (Config, events)
 
-  scan-meets : (slots i f n p : ℕ) (ths : List (Thread M)) → n + f ≡ events → Exact M i n ths → Before M slots i n p → Demand M slots i (scan M (next M) (waitingCount M) slots f n ths p)
+  scan-meets : (slots i f n p : ℕ) (ths : List (Thread M)) → n + f ≡ events → Exact M i n ths → Before M slots i n p
+      → Demand M slots i (scan M (next M) (waitingCount M) slots f n ths p)
   unfolding scan
   scan-meets slots i zero n p ths h x b = no-events M slots i n p (omega (arith, h)) b
   scan-meets slots i (suc f) n p ths h x b =
@@ -128,16 +144,36 @@ module _ (M : Machine) (L : Laws M) where
       count : Count M i n w
       count = exact-count M L i n (next M n ths) (b .from) more
 
-      waits : (c : Bool) → ltb slots w ≡ c → ((u : Trail) (e : Config) → Run M i u e → n < last u) → (Before M slots i (suc n) (max p w) → Demand M slots i rest) → Demand M slots i (overfull M c n rest)
+      waits : (c : Bool) → ltb slots w ≡ c → ((u : Trail) (e : Config) → Run M i u e → n < last u)
+          → (Before M slots i (suc n) (max p w) → Demand M slots i rest) → Demand M slots i (overfull M c n rest)
       waits true e u go =
-          record { here = record { from = b .from; there = omega (arith, h); unended = u; more = record { number = w; count = count; over = ltb-true slots w e } }; first = b .roomy }
-      waits false e u go = go (record { from = omega (arith, b .from); unended = u; roomy = λ m q c. room m c (eq-or-lt-of-le q); peak = peak-next M i n p w (b .from) (b .peak) count })
+          record {
+            here = record
+                { from = b .from; there = omega (arith, h); unended = u; more = record { number = w; count = count; over = ltb-true slots w e } };
+            first =
+                b .roomy;
+          }
+      waits false e u go =
+          go (record {
+            from = omega (arith, b .from);
+            unended = u;
+            roomy = λ m q c. room m c (eq-or-lt-of-le q);
+            peak =
+                peak-next M i n p w (b .from) (b .peak) count;
+          })
         where
           room : (m : ℕ) → Crowded M slots i m → (suc m ≡ suc n) ⊎ (suc m < suc n) → ⊥
-          room m c (inl q) = omega (arith, ltb-false slots w e, c .more .over, count-one M i n (c .more .number) w (subst (λ z. Count M i z (c .more .number)) (omega (arith, q)) (c .more .count)) count)
+          room m c (inl q) = omega (
+            arith,
+            ltb-false slots w e,
+            c .more .over,
+            count-one M i n (c .more .number) w
+                (subst (λ z. Count M i z (c .more .number)) (omega (arith, q)) (c .more .count)) count,
+          )
           room m c (inr q) = b .roomy m (omega (arith, q)) c
 
-      ending : (o : Option (Thread M)) → least M (endings M n ths) ≡ o → (Before M slots i (suc n) (max p w) → Demand M slots i rest) → Demand M slots i (outcome M o p (overfull M (ltb slots w) n rest))
+      ending : (o : Option (Thread M)) → least M (endings M n ths) ≡ o → (Before M slots i (suc n) (max p w) → Demand M slots i rest)
+          → Demand M slots i (outcome M o p (overfull M (ltb slots w) n rest))
       ending (some th) e go = one-found M slots i n p ths th (omega (arith, h)) x b (least-some M (endings M n ths) th e)
       ending none e go = waits (ltb slots w) refl (no-ending M i n ths x (b .unended) (least-none M (endings M n ths) e)) go
 

@@ -1,7 +1,7 @@
 -- What the computed moves, stays and tests hold, as facts of the machine, and back.
 use mathlib.Core.Path.{_≡_, refl, sym, ap, _∙_, subst}
 use mathlib.Core.Logic.{_⊎_, inl, inr}
-use mathlib.Core.Bool.{Bool, true, false, not, _&&_, _||_, or-true, true≢false, false≢true}
+use mathlib.Core.Bool.{Bool, true, false, not, _&&_, _||_, or-true, and-eq-true-iff, true≢false, false≢true}
 use mathlib.Core.Option.{Option, none, some}
 use mathlib.Core.List.{List, [], _∷_, _++_, List·Memᴰ·head, List·Memᴰ·tail, List·Memᴰ·not-nil, List·Memᴰ·cases-cons, List·Memᴰ·eq-of-singleton}
 use Prim.Native.Nat.{ℕ, zero, suc, _+_, _≤_, _<_}
@@ -14,14 +14,11 @@ use Rattle.runs.specs.Lists.{In}
 use Rattle.runs.specs.Machine.{Machine}
 use Rattle.runs.specs.Run.{Trail, Quiet}
 use Rattle.runs.specs.Waiting.{Hopeful}
-use Rattle.runs.specs.Search.{Thread, begun, arrive, firing, chosen, moves, passes, stays, unended, anyAlive, hopeful}
+use Rattle.runs.specs.inner.Search.{Thread, begun, arrive, firing, chosen, moves, passes, stays, unended, anyAlive, hopeful}
 
 pub and-both : (a b : Bool) → (a && b) ≡ true → (a ≡ true) × (b ≡ true)
 and-both true b e = (refl, e)
 and-both false b e = absurd (false≢true e)
-
-pub both-and : {a b : Bool} → a ≡ true → b ≡ true → (a && b) ≡ true
-both-and p q = rw p q
 
 pub begun-same : (t u : Trail) → length t ≡ length u → begun t ≡ begun u
 begun-same [] [] h = refl
@@ -45,7 +42,13 @@ module _ (M : Machine) where
 
   abbrev fired-here : (th : Thread M) (n k : ℕ) (d : Config) (x : Thread M) → fire (th .config) n k ≡ some d → x ≡ stepped th n k d → Fired th n k x
   fired-here th n k d x e q =
-      record { number = k; from = omega arith; fires = e ∙ ap some (ap (λ (y : Thread M). y .config) (sym q)); is = q ∙ ap (λ z. stepped th n k z) (ap (λ (y : Thread M). y .config) (sym q)) }
+      record {
+        number = k;
+        from = omega arith;
+        fires = e ∙ ap some (ap (λ (y : Thread M). y .config) (sym q));
+        is = q
+            ∙ ap (λ z. stepped th n k z) (ap (λ (y : Thread M). y .config) (sym q));
+      }
 
   -- ---- the steps that fire
 
@@ -59,13 +62,20 @@ module _ (M : Machine) where
   firing-in th n k (suc r) x m = go (fire (th .config) n k) refl m (λ h. firing-in th n (suc k) r x h)
     where
       onward : Firing th n (suc k) r x → Firing th n k (suc r) x
-      onward f = record { fired = record { number = f .fired .number; from = omega (arith, f .fired .from); fires = f .fired .fires; is = f .fired .is }; below = omega (arith, f .below) }
+      onward f =
+          record {
+            fired = record { number = f .fired .number; from = omega (arith, f .fired .from); fires = f .fired .fires; is = f .fired .is };
+            below =
+                omega (arith, f .below);
+          }
 
-      cases : (d : Config) → fire (th .config) n k ≡ some d → (x ≡ stepped th n k d) ⊎ In x (firing M th n (suc k) r) → (In x (firing M th n (suc k) r) → Firing th n (suc k) r x) → Firing th n k (suc r) x
+      cases : (d : Config) → fire (th .config) n k ≡ some d → (x ≡ stepped th n k d) ⊎ In x (firing M th n (suc k) r)
+          → (In x (firing M th n (suc k) r) → Firing th n (suc k) r x) → Firing th n k (suc r) x
       cases d e (inl q) ih = record { fired = fired-here th n k d x e q; below = omega arith }
       cases d e (inr h) ih = onward (ih h)
 
-      go : (o : Option Config) → fire (th .config) n k ≡ o → In x (arrive M th n k o (firing M th n (suc k) r)) → (In x (firing M th n (suc k) r) → Firing th n (suc k) r x) → Firing th n k (suc r) x
+      go : (o : Option Config) → fire (th .config) n k ≡ o → In x (arrive M th n k o (firing M th n (suc k) r))
+          → (In x (firing M th n (suc k) r) → Firing th n (suc k) r x) → Firing th n k (suc r) x
       go none e h ih = onward (ih h)
       go (some d) e h ih = cases d e (List·Memᴰ·cases-cons h) ih
 
@@ -73,7 +83,8 @@ module _ (M : Machine) where
   arrive-rest th n k none rest m = m
   arrive-rest th n k (some d) rest m = List·Memᴰ·tail m
 
-  arrive-here : (th : Thread M) (n k : ℕ) (o : Option Config) (rest : List (Thread M)) (d : Config) → o ≡ some d → In (stepped th n k d) (arrive M th n k o rest)
+  arrive-here : (th : Thread M) (n k : ℕ) (o : Option Config) (rest : List (Thread M)) (d : Config) → o ≡ some d
+      → In (stepped th n k d) (arrive M th n k o rest)
   arrive-here th n k o rest d e = rw e (List·Memᴰ·head refl)
 
   firing-out : (th : Thread M) (n k r j : ℕ) (d : Config) → k ≤ j → j < k + r → fire (th .config) n j ≡ some d → In (stepped th n j d) (firing M th n k r)
@@ -82,7 +93,9 @@ module _ (M : Machine) where
   firing-out th n k (suc r) j d h l e = go (eq-or-lt-of-le h) (λ q. firing-out th n (suc k) r j d q (omega (arith, l)) e)
     where
       go : (k ≡ j) ⊎ (k < j) → (suc k ≤ j → In (stepped th n j d) (firing M th n (suc k) r)) → In (stepped th n j d) (firing M th n k (suc r))
-      go (inl q) ih = subst (λ z. In (stepped th n z d) (firing M th n k (suc r))) q (arrive-here th n k (fire (th .config) n k) (firing M th n (suc k) r) d (ap (λ z. fire (th .config) n z) q ∙ e))
+      go (inl q) ih =
+          subst (λ z. In (stepped th n z d) (firing M th n k (suc r))) q
+          (arrive-here th n k (fire (th .config) n k) (firing M th n (suc k) r) d (ap (λ z. fire (th .config) n z) q ∙ e))
       go (inr q) ih = arrive-rest th n k (fire (th .config) n k) (firing M th n (suc k) r) (ih q)
 
   -- ---- the lowest of them
@@ -96,13 +109,20 @@ module _ (M : Machine) where
   first-in th n k zero x m = absurd (List·Memᴰ·not-nil m)
   first-in th n k (suc r) x m = go (fire (th .config) n k) refl m (λ h. first-in th n (suc k) r x h)
     where
-      go : (o : Option Config) → fire (th .config) n k ≡ o → In x (take 1 (arrive M th n k o (firing M th n (suc k) r))) → (In x (take 1 (firing M th n (suc k) r)) → Lowest th n (suc k) r x) → Lowest th n k (suc r) x
+      go : (o : Option Config) → fire (th .config) n k ≡ o → In x (take 1 (arrive M th n k o (firing M th n (suc k) r)))
+          → (In x (take 1 (firing M th n (suc k) r)) → Lowest th n (suc k) r x) → Lowest th n k (suc r) x
       go none e h ih =
           let f = ih h in
           record {
             firing =
                 record {
-                  fired = record { number = f .firing .fired .number; from = omega (arith, f .firing .fired .from); fires = f .firing .fired .fires; is = f .firing .fired .is };
+                  fired = record {
+                    number = f .firing .fired .number;
+                    from = omega (arith, f .firing .fired .from);
+                    fires = f .firing .fired .fires;
+                    is =
+                        f .firing .fired .is;
+                  };
                   below = omega (arith, f .firing .below);
                 };
             lowest = λ j p q. low j q (f .lowest j) (eq-or-lt-of-le p);
@@ -118,7 +138,8 @@ module _ (M : Machine) where
           }
 
   -- the lowest step that fires is the first of them
-  pub first-fires : (th : Thread M) (n i r k : ℕ) (d : Config) → i ≤ k → k < i + r → fire (th .config) n k ≡ some d → ((j : ℕ) → j < k → fire (th .config) n j ≡ none) → take 1 (firing M th n i r) ≡ stepped th n k d ∷ []
+  pub first-fires : (th : Thread M) (n i r k : ℕ) (d : Config) → i ≤ k → k < i + r → fire (th .config) n k ≡ some d
+      → ((j : ℕ) → j < k → fire (th .config) n j ≡ none) → take 1 (firing M th n i r) ≡ stepped th n k d ∷ []
   unfolding firing
   first-fires th n i zero k d h l e low = absurd (omega (arith, h, l))
   first-fires th n i (suc r) k d h l e low = go (eq-or-lt-of-le h) (λ q. first-fires th n (suc i) r k d q (omega (arith, l)) e low)
@@ -144,7 +165,14 @@ module _ (M : Machine) where
       go : (b : Bool) → committed (th .config) ≡ b → In x (chosen M b (firing M th n 0 steps)) → Moved n th x
       go false e h =
           let f = firing-in th n 0 steps x h in
-          record { number = f .fired .number; known = omega (arith, f .below); fires = f .fired .fires; lowest = λ c. absurd (true≢false (sym c ∙ e)); is = f .fired .is }
+          record {
+            number = f .fired .number;
+            known = omega (arith, f .below);
+            fires = f .fired .fires;
+            lowest = λ c. absurd (true≢false (sym c ∙ e));
+            is =
+                f .fired .is;
+          }
       go true e h =
           let f = first-in th n 0 steps x h in
           record {
@@ -155,7 +183,8 @@ module _ (M : Machine) where
             is = f .firing .fired .is;
           }
 
-  pub moves-out : (n : ℕ) (th : Thread M) (k : ℕ) (d : Config) → k < steps → fire (th .config) n k ≡ some d → (committed (th .config) ≡ true → (j : ℕ) → j < k → fire (th .config) n j ≡ none) → In (stepped th n k d) (moves M n th)
+  pub moves-out : (n : ℕ) (th : Thread M) (k : ℕ) (d : Config) → k < steps → fire (th .config) n k ≡ some d
+      → (committed (th .config) ≡ true → (j : ℕ) → j < k → fire (th .config) n j ≡ none) → In (stepped th n k d) (moves M n th)
   unfolding moves
   moves-out n th k d h e low = go (committed (th .config)) refl
     where
@@ -174,7 +203,8 @@ module _ (M : Machine) where
 
       silent : (k : ℕ) (o : Option Config) → fire (th .config) n k ≡ o → k < steps → firing M th n 0 steps ≡ [] → fire (th .config) n k ≡ none
       silent k none f h q = f
-      silent k (some d) f h q = absurd (List·Memᴰ·not-nil (subst (λ l. In (stepped th n k d) l) q (firing-out th n 0 steps k d (omega arith) (omega (arith, h)) f)))
+      silent k (some d) f h q =
+          absurd (List·Memᴰ·not-nil (subst (λ l. In (stepped th n k d) l) q (firing-out th n 0 steps k d (omega arith) (omega (arith, h)) f)))
 
       quiet : (l : List (Thread M)) → firing M th n 0 steps ≡ l → passes M true l ≡ true → Quiet M (th .config) n
       quiet [] q p k h = silent k (fire (th .config) n k) refl h q
@@ -187,7 +217,7 @@ module _ (M : Machine) where
 
   pub stays-out : (n : ℕ) (th : Thread M) → begun (th .trail) ≡ true → (committed (th .config) ≡ true → Quiet M (th .config) n) → stays M n th ≡ true
   unfolding stays
-  stays-out n th b q = both-and b (go (committed (th .config)) refl)
+  stays-out n th b q = and-eq-true-iff (begun (th .trail)) (passes M (committed (th .config)) (firing M th n 0 steps)) .1 (b, go (committed (th .config)) refl)
     where
       go : (c : Bool) → committed (th .config) ≡ c → passes M c (firing M th n 0 steps) ≡ true
       go false e = refl
@@ -203,14 +233,15 @@ module _ (M : Machine) where
 
   pub unended-out : (th : Thread M) → final (th .config) ≡ false → length (th .trail) ≤ 31 → unended M th ≡ true
   unfolding unended
-  unended-out th e h = both-and (ap not e) (le-leb (length (th .trail)) 31 h)
+  unended-out th e h = and-eq-true-iff (not (final (th .config))) (leb (length (th .trail)) 31) .1 (ap not e, le-leb (length (th .trail)) 31 h)
 
   alive-in : (c : Config) (n r : ℕ) → anyAlive M c n r ≡ true → (k : ℕ) × (k < r) × (expired c k n ≡ false)
   unfolding anyAlive
   alive-in c n zero e = absurd (false≢true e)
   alive-in c n (suc r) e = go (expired c r n) refl e (λ h. alive-in c n r h)
     where
-      go : (b : Bool) → expired c r n ≡ b → (not b || anyAlive M c n r) ≡ true → (anyAlive M c n r ≡ true → (k : ℕ) × (k < r) × (expired c k n ≡ false)) → (k : ℕ) × (k < suc r) × (expired c k n ≡ false)
+      go : (b : Bool) → expired c r n ≡ b → (not b || anyAlive M c n r) ≡ true → (anyAlive M c n r ≡ true → (k : ℕ) × (k < r) × (expired c k n ≡ false))
+          → (k : ℕ) × (k < suc r) × (expired c k n ≡ false)
       go true x h ih = let f = ih h in (f .0, omega (arith, f .1), f .2)
       go false x h ih = (r, omega arith, x)
 

@@ -8,13 +8,15 @@ use Prim.Native.Nat.{ℕ, suc, _≤_, _<_}
 use native.Mathlib.Nat.{eq-or-lt-of-le}
 use native.Mathlib.Omega.{arith}
 use lib.ListN.{length}
-use Rattle.runs.specs.Lists.{In, keep}
-use Rattle.runs.specs.Machine.{Machine, Laws}
-use Rattle.runs.specs.Run.{Entry, Trail, lastOr, last, after, Starts, Quiet, Takes, Follow, Run, Partial}
+use Rattle.runs.specs.Lists.{In}
+use Rattle.runs.specs.inner.Lists.{keep}
+use Rattle.runs.specs.Machine.{Machine}
+use Rattle.runs.specs.inner.Laws.{Laws}
+use Rattle.runs.specs.Run.{Entry, Trail, lastOr, last, Starts, Quiet, Takes, Follow, Run, Partial}
 use Rattle.runs.specs.Waiting.{Waits, Count}
-use Rattle.runs.specs.Search.{Thread, begun, moves, stays, unended, offers, next, ended, endings, hopeful, waiting, waitingCount, origin}
+use Rattle.runs.specs.inner.Search.{Thread, begun, moves, stays, unended, offers, next, ended, endings, hopeful, waiting, waitingCount, origin}
 use Rattle.runs.proofs.Lists.{only-in, only-first, only-rest, keep-in, keep-out, Given, gather-in, gather-out, map-in, map-out, distinct-in, distinct-out, distinct-once}
-use Rattle.runs.proofs.Trails.{after-snoc, last-snoc, after-last, rising-after, length-snoc, follow-rising, follow-snoc, Parted, follow-part}
+use Rattle.runs.proofs.Trails.{after, after-snoc, last-snoc, after-last, rising-after, length-snoc, follow-rising, follow-snoc, Parted, follow-part}
 use Rattle.runs.proofs.Moves.{Moved, moves-in, moves-out, stays-in, stays-out, unended-in, unended-out, hopeful-in, hopeful-out}
 
 -- before event i nothing is taken; from then on the first step is on i
@@ -38,7 +40,15 @@ module _ (M : Machine) where
 
   stay-live : (i n : ℕ) (th : Thread M) → Live i n th → stays M n th ≡ true → Live i (suc n) th
   stay-live i n th l s =
-      record { begins = go (th .trail) (l .begins) (h .0); follows = l .follows; early = omega (arith, l .early); going = l .going; most = l .most; patient = λ c m p q. wait c m p (eq-or-lt-of-le q) }
+      record {
+        begins = go (th .trail) (l .begins) (h .0);
+        follows = l .follows;
+        early = omega (arith, l .early);
+        going = l .going;
+        most = l .most;
+        patient = λ
+            c m p q. wait c m p (eq-or-lt-of-le q);
+      }
     where
       h : (begun (th .trail) ≡ true) × (committed (th .config) ≡ true → Quiet M (th .config) n)
       h = stays-in M n th s
@@ -51,7 +61,8 @@ module _ (M : Machine) where
       wait c m p (inl q) = subst (Quiet M (th .config)) (omega (arith, q)) (h .1 c)
       wait c m p (inr q) = l .patient c m p (omega (arith, q))
 
-  pub move-takes : (i n : ℕ) (th x : Thread M) → n < events → Live i n th → (v : Moved M n th x) → Takes M (th .config) (after i (th .trail)) n (v .number) (x .config)
+  pub move-takes : (i n : ℕ) (th x : Thread M) → n < events → Live i n th → (v : Moved M n th x)
+      → Takes M (th .config) (after i (th .trail)) n (v .number) (x .config)
   move-takes i n th x h l v =
       record { going = l .going; later = l .early; there = h; known = v .known; fires = v .fires; lowest = v .lowest; prompt = l .patient }
 
@@ -62,7 +73,13 @@ module _ (M : Machine) where
     ends : last (x .trail) ≡ n
 
   move-led : (i n : ℕ) (th x : Thread M) → n < events → Live i n th → Moved M n th x → Led i n x
-  move-led i n th x h l v = subst (Led i n) (sym (v .is)) (record { begins = go (th .trail) (l .begins); follows = follow-snoc M start (th .config) (x .config) i (th .trail) e (l .follows) (move-takes i n th x h l v); ends = last-snoc 0 (th .trail) e })
+  move-led i n th x h l v =
+      subst (Led i n) (sym (v .is)) (record {
+        begins = go (th .trail) (l .begins);
+        follows =
+            follow-snoc M start (th .config) (x .config) i (th .trail) e (l .follows) (move-takes i n th x h l v);
+        ends = last-snoc 0 (th .trail) e;
+      })
     where
       e : Entry
       e = record { event = n; step = v .number }
@@ -103,9 +120,11 @@ module _ (M : Machine) where
 
   step-moves : (i n : ℕ) (x : Thread M) (s : Step i n x) → In x (moves M n (s .from))
   step-moves i n x s =
-      subst (λ z. In z (moves M n (s .from))) (sym (s .moved .is)) (moves-out M n (s .from) (s .moved .number) (x .config) (s .moved .known) (s .moved .fires) (s .moved .lowest))
+      subst (λ z. In z (moves M n (s .from))) (sym (s .moved .is))
+      (moves-out M n (s .from) (s .moved .number) (x .config) (s .moved .known) (s .moved .fires) (s .moved .lowest))
 
-  step-back : (i n : ℕ) (x : Entry) (t : Trail) (e : Config) → x .event ≡ i → Follow M start i (x ∷ t) e → last (x ∷ t) ≡ n → length (x ∷ t) ≤ 32 → Step i n (record { config = e; trail = x ∷ t })
+  step-back : (i n : ℕ) (x : Entry) (t : Trail) (e : Config) → x .event ≡ i → Follow M start i (x ∷ t) e → last (x ∷ t) ≡ n → length (x ∷ t) ≤ 32
+      → Step i n (record { config = e; trail = x ∷ t })
   step-back i n x t e b f l h = record { from = record { config = p .middle; trail = p .front }; live = alive; moved = moved }
     where
       p : Parted M start i (x ∷ t) e
@@ -164,14 +183,17 @@ module _ (M : Machine) where
               let q = keep-in (unended M) (moves M n (g .giver)) k in
               move-live i n (g .giver) th l (x .sound (g .giver) (g .member)) (moves-in M n (g .giver) th (q .member)) (q .passes)
 
-      stay : (c : Config) (t : Trail) → Live i (suc n) (record { config = c; trail = t }) → after i t ≤ n → begun t ≡ true → Begins i n t → In (record { config = c; trail = t }) (next M n ths)
+      stay : (c : Config) (t : Trail) → Live i (suc n) (record { config = c; trail = t }) → after i t ≤ n → begun t ≡ true → Begins i n t
+          → In (record { config = c; trail = t }) (next M n ths)
       stay c t a e b s =
           let th : Thread M = record { config = c; trail = t } in
           gather-out (offers M n)
-          (x .complete th (record { begins = s; follows = a .follows; early = e; going = a .going; most = a .most; patient = λ k m p q. a .patient k m p (omega (arith, q)) }))
+          (x .complete th (record
+          { begins = s; follows = a .follows; early = e; going = a .going; most = a .most; patient = λ k m p q. a .patient k m p (omega (arith, q)) }))
           (only-first (keep (unended M) (moves M n th)) (stays-out M n th b (λ k. a .patient k n e (omega arith))))
 
-      complete : (c : Config) (t : Trail) → Live i (suc n) (record { config = c; trail = t }) → (after i t ≡ suc n) ⊎ (after i t < suc n) → In (record { config = c; trail = t }) (next M n ths)
+      complete : (c : Config) (t : Trail) → Live i (suc n) (record { config = c; trail = t }) → (after i t ≡ suc n) ⊎ (after i t < suc n)
+          → In (record { config = c; trail = t }) (next M n ths)
       complete c [] a q = absurd (omega (arith, h, a .begins))
       complete c (y ∷ t) a (inr q) = stay c (y ∷ t) a (omega (arith, q)) refl (a .begins)
       complete c (y ∷ t) a (inl q) =
@@ -210,7 +232,8 @@ module _ (M : Machine) where
         last-is = d .ends;
       }
 
-  pub endings-out : (i n : ℕ) (ths : List (Thread M)) → Exact i n ths → (t : Trail) (e : Config) → Run M i t e → last t ≡ n → In (record { config = e; trail = t }) (endings M n ths)
+  pub endings-out : (i n : ℕ) (ths : List (Thread M)) → Exact i n ths → (t : Trail) (e : Config) → Run M i t e → last t ≡ n
+      → In (record { config = e; trail = t }) (endings M n ths)
   unfolding endings
   endings-out i n ths x [] e r q = absurd (r .path .begins)
   endings-out i n ths x (y ∷ t) e r q =
@@ -223,10 +246,20 @@ module _ (M : Machine) (L : Laws M) where
 
   pub exact-origin : (i : ℕ) → Exact M i i (origin M)
   unfolding origin
-  exact-origin i = record { sound = λ th m. subst (Live M i i) (sym (List·Memᴰ·eq-of-singleton m)) first; complete = λ th l. only-start (th .config) (th .trail) l }
+  exact-origin i =
+      record { sound = λ th m. subst (Live M i i) (sym (List·Memᴰ·eq-of-singleton m)) first; complete = λ th l. only-start (th .config) (th .trail) l }
     where
       first : Live M i i (record { config = start; trail = [] })
-      first = record { begins = refl; follows = refl; early = omega arith; going = L .start-open; most = omega arith; patient = λ c m p q. absurd (omega (arith, p, q)) }
+      first =
+          record {
+            begins = refl;
+            follows = refl;
+            early = omega arith;
+            going = L .start-open;
+            most = omega arith;
+            patient = λ
+                c m p q. absurd (omega (arith, p, q));
+          }
 
       only-start : (c : Config) (t : Trail) → Live M i i (record { config = c; trail = t }) → In (record { config = c; trail = t }) (origin M)
       only-start c [] l = List·Memᴰ·head (λ j. record { config = sym (l .follows) j; trail = [] })
@@ -245,12 +278,14 @@ module _ (M : Machine) (L : Laws M) where
         counted = refl;
       }
     where
-      waits : (c : Config) (t : Trail) → Live M i (suc n) (record { config = c; trail = t }) → hopeful M n (record { config = c; trail = t }) ≡ true → Waits M i n c
+      waits : (c : Config) (t : Trail) → Live M i (suc n) (record { config = c; trail = t }) → hopeful M n (record { config = c; trail = t }) ≡ true
+          → Waits M i n c
       waits c [] l e = absurd (omega (arith, h, l .begins))
       waits c (y ∷ t) l e =
           record {
             trail = y ∷ t;
-            partial = record { path = record { least = omega arith; most = omega (arith, l .most); begins = l .begins; follows = l .follows }; going = l .going };
+            partial = record
+                { path = record { least = omega arith; most = omega (arith, l .most); begins = l .begins; follows = l .follows }; going = l .going };
             most = l .most;
             upto = omega (arith, l .early, after-last y t);
             patient = λ k m p q. l .patient k m (omega (arith, p, after-last y t)) (omega (arith, q));
@@ -259,11 +294,13 @@ module _ (M : Machine) (L : Laws M) where
 
       sound : (c : Config) → In c (waiting M n ths) → Waits M i n c
       sound c m =
-          let g = map-in (λ (th : Thread M). th .config) (keep (hopeful M n) ths) (distinct-in same (L .same-equal) (L .equal-same) (map (λ (th : Thread M). th .config) (keep (hopeful M n) ths)) m) in
+          let g = map-in (λ (th : Thread M). th .config) (keep (hopeful M n) ths)
+          (distinct-in same (L .same-equal) (L .equal-same) (map (λ (th : Thread M). th .config) (keep (hopeful M n) ths)) m) in
           let q = keep-in (hopeful M n) ths (g .member) in
           subst (Waits M i n) (sym (g .is)) (waits (g .source .config) (g .source .trail) (x .sound (g .source) (q .member)) (q .passes))
 
-      live : (c : Config) (t : Trail) (p : Partial M i t c) → length t ≤ 31 → last t ≤ n → (committed c ≡ true → (m : ℕ) → last t < m → m ≤ n → Quiet M c m) → Live M i (suc n) (record { config = c; trail = t })
+      live : (c : Config) (t : Trail) (p : Partial M i t c) → length t ≤ 31 → last t ≤ n → (committed c ≡ true → (m : ℕ) → last t < m → m ≤ n → Quiet M c m)
+          → Live M i (suc n) (record { config = c; trail = t })
       live c [] p l u k = absurd (p .path .begins)
       live c (y ∷ t) p l u k =
           record {

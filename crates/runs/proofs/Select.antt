@@ -10,19 +10,22 @@ use native.Mathlib.Nat.{le-refl}
 use native.Mathlib.Omega.{arith}
 use lib.Dec.{ltb}
 use lib.ListN.{length, length-map, length-append}
-use Rattle.runs.specs.Lists.{In, keep}
-use Rattle.runs.specs.Machine.{Machine, Laws}
+use Rattle.runs.specs.Lists.{In}
+use Rattle.runs.specs.inner.Lists.{keep}
+use Rattle.runs.specs.Machine.{Machine}
+use Rattle.runs.specs.inner.Laws.{Laws}
 use Rattle.runs.specs.Run.{Quiet, Follow}
 use Rattle.runs.specs.Waiting.{Hopeful}
-use Rattle.runs.specs.Search.{Thread, Answer, moves, stays, unended, offers, next, ended, endings, least, hopeful, waiting, waitingCount, overfull, outcome, scan, origin, search}
-use Rattle.runs.specs.Threads.{candidates, advance, within, onward, follow, threads}
+use Rattle.runs.specs.Answer.{Answer}
+use Rattle.runs.specs.inner.Search.{Thread, moves, stays, unended, offers, next, ended, endings, least, hopeful, waiting, waitingCount, overfull, outcome, scan, origin, search}
+use Rattle.runs.specs.inner.Threads.{candidates, advance, within, onward, follow, threads}
 use Rattle.runs.proofs.Lists.{only-in, only-first, only-rest, Passed, keep-in, keep-out, Given, gather-in, gather-out, Image, map-in, map-out, distinct-in, distinct-out, distinct-once, same-length}
 use Rattle.runs.proofs.Comparison.{AtMost, at-most-append}
 use Rattle.runs.proofs.Trails.{follow-one, follow-valid, start-weight}
 use Rattle.runs.proofs.Moves.{stepped, Moved, moves-in, moves-out, stays-in, stays-out, begun-same, unended-in, unended-out, hopeful-in, hopeful-out, hopeless-in}
 use Rattle.runs.proofs.Least.{some≢none, Under, least-agrees}
 use Rattle.runs.proofs.Reach.{Live, Exact, exact-next, exact-origin, endings-in, move-length}
-use Rattle.runs.proofs.Insert.{configs, Covered, covered-trans, covered-self, insertAll-from, insertAll-covers, insertAll-once, fits}
+use Rattle.runs.proofs.LeastTrails.{configs, Covered, covered-trans, covered-self, insertAll-from, insertAll-covers, insertAll-once, fits}
 
 module _ (M : Machine) where
   open Machine M using (Config, start, committed, final, fire, expired, steps, events)
@@ -45,9 +48,11 @@ module _ (M : Machine) where
       moves-out M n w (v .number) (x .config) (v .known) (ap (λ c. fire c n (v .number)) e ∙ v .fires)
       (λ c j q. ap (λ z. fire z n j) e ∙ v .lowest (ap committed (sym e) ∙ c) j q)
 
-  shifted-under : (n : ℕ) (th x w : Thread M) (v : Moved M n th x) → length (w .trail) ≡ length (th .trail) → AtMost (w .trail) (th .trail) → AtMost (stepped M w n (v .number) (x .config) .trail) (x .trail)
+  shifted-under : (n : ℕ) (th x w : Thread M) (v : Moved M n th x) → length (w .trail) ≡ length (th .trail) → AtMost (w .trail) (th .trail)
+      → AtMost (stepped M w n (v .number) (x .config) .trail) (x .trail)
   shifted-under n th x w v h a =
-      subst (λ (y : Thread M). AtMost (w .trail ++ (record { event = n; step = v .number } ∷ [])) (y .trail)) (sym (v .is)) (at-most-append (w .trail) (th .trail) (record { event = n; step = v .number } ∷ []) h a)
+      subst (λ (y : Thread M). AtMost (w .trail ++ (record { event = n; step = v .number } ∷ [])) (y .trail)) (sym (v .is))
+      (at-most-append (w .trail) (th .trail) (record { event = n; step = v .number } ∷ []) h a)
 
   stays-same : (n : ℕ) (th w : Thread M) → w .config ≡ th .config → length (w .trail) ≡ length (th .trail) → stays M n th ≡ true → stays M n w ≡ true
   stays-same n th w e h s =
@@ -71,7 +76,8 @@ module _ (M : Machine) (L : Laws M) where
 
   -- equal configurations have equally long trails
   same-steps : (i n : ℕ) (a b : Thread M) → Live M i n a → Live M i n b → a .config ≡ b .config → length (a .trail) ≡ length (b .trail)
-  same-steps i n a b p q e = sym (start-weight M L (a .config) i (a .trail) (p .follows)) ∙ ap (L .weight) e ∙ start-weight M L (b .config) i (b .trail) (q .follows)
+  same-steps i n a b p q e =
+      sym (start-weight M L (a .config) i (a .trail) (p .follows)) ∙ ap (L .weight) e ∙ start-weight M L (b .config) i (b .trail) (q .follows)
 
   -- what has no unexpired step after n is dead from the next event on
   hopeless-dead : (i n : ℕ) (x : Thread M) → L .first ≤ n → Live M i (suc n) x → hopeful M n x ≡ false → Dead M (suc n) (x .config)
@@ -91,14 +97,18 @@ module _ (M : Machine) (L : Laws M) where
   same-endings i n w all l x s = least-agrees M (endings M n w) (endings M n all) sub cover one
     where
       sub : (y : Thread M) → In y (endings M n w) → In y (endings M n all)
-      sub y m = let g = gather-in (λ (th : Thread M). keep (ended M) (moves M n th)) w m in gather-out (λ (th : Thread M). keep (ended M) (moves M n th)) (s .from (g .giver) (g .member)) (g .gives)
+      sub y m =
+          let g = gather-in (λ (th : Thread M). keep (ended M) (moves M n th)) w m in
+          gather-out (λ (th : Thread M). keep (ended M) (moves M n th)) (s .from (g .giver) (g .member)) (g .gives)
 
       under : (th y : Thread M) → In th all → Moved M n th y → final (y .config) ≡ true → Covered M w th ⊎ Dead M n (th .config) → Under M (endings M n w) y
       under th y m v f (inl c) =
           record {
             thread = stepped M (c .thread) n (v .number) (y .config);
-            member = gather-out (λ (th : Thread M). keep (ended M) (moves M n th)) (c .member) (keep-out (ended M) (shifted M n th y (c .thread) (c .config-is) v) f);
-            under = shifted-under M n th y (c .thread) v (same-steps i n (c .thread) th (x .sound (c .thread) (s .from (c .thread) (c .member))) (x .sound th m) (c .config-is)) (c .under);
+            member = gather-out (λ (th : Thread M). keep (ended M) (moves M n th)) (c .member)
+                (keep-out (ended M) (shifted M n th y (c .thread) (c .config-is) v) f);
+            under = shifted-under M n th y (c .thread) v
+                (same-steps i n (c .thread) th (x .sound (c .thread) (s .from (c .thread) (c .member))) (x .sound th m) (c .config-is)) (c .under);
           }
       under th y m v f (inr d) = absurd (dead-moves M n th y l d v)
 
@@ -114,34 +124,50 @@ module _ (M : Machine) (L : Laws M) where
       one a b p q e = λ j. record { config = config j; trail = e j }
         where
           config : a .config ≡ b .config
-          config = follow-one M start start (a .config) (b .config) i (b .trail) refl (subst (λ t. Follow M start i t (a .config)) e (endings-in M i n all l x a p .run .path .follows)) (endings-in M i n all l x b q .run .path .follows)
+          config = follow-one M start start (a .config) (b .config) i (b .trail) refl
+              (subst (λ t. Follow M start i t (a .config)) e (endings-in M i n all l x a p .run .path .follows))
+              (endings-in M i n all l x b q .run .path .follows)
 
   -- ---- the same waiting configurations
 
-  candidate : (i n : ℕ) (w all : List (Thread M)) → n < events → Exact M i n all → Selects M n w all → (x : Thread M) → In x (next M n all) → hopeful M n x ≡ true → Covered M (advance M n w) x
+  candidate : (i n : ℕ) (w all : List (Thread M)) → n < events → Exact M i n all → Selects M n w all → (x : Thread M) → In x (next M n all)
+      → hopeful M n x ≡ true → Covered M (advance M n w) x
   unfolding next offers candidates advance
   candidate i n w all l ex s x m h = of (gather-in (offers M n) all m)
     where
       enter : (t y : Thread M) → In t w → In y (offers M n t) → y .config ≡ x .config → AtMost (y .trail) (x .trail) → Covered M (advance M n w) x
-      enter t y k o e a = covered-trans M (advance M n w) y x e a (insertAll-covers M L [] (candidates M n w) y (keep-out (hopeful M n) (gather-out (offers M n) k o) (hopeful-same M n x y e h)))
+      enter t y k o e a =
+          covered-trans M (advance M n w) y x e a
+          (insertAll-covers M L [] (candidates M n w) y (keep-out (hopeful M n) (gather-out (offers M n) k o) (hopeful-same M n x y e h)))
 
       long : (th : Thread M) → In th all → (c : Covered M w th) → length (c .thread .trail) ≡ length (th .trail)
       long th k c = same-steps i n (c .thread) th (ex .sound (c .thread) (s .from (c .thread) (c .member))) (ex .sound th k) (c .config-is)
 
       stay : (th : Thread M) → In th all → stays M n th ≡ true → x ≡ th → Covered M w th ⊎ Dead M n (th .config) → Covered M (advance M n w) x
       stay th k e q (inl c) =
-          enter (c .thread) (c .thread) (c .member) (only-first (keep (unended M) (moves M n (c .thread))) (stays-same M n th (c .thread) (c .config-is) (long th k c) e))
+          enter (c .thread) (c .thread) (c .member)
+          (only-first (keep (unended M) (moves M n (c .thread))) (stays-same M n th (c .thread) (c .config-is) (long th k c) e))
           (c .config-is ∙ ap (λ (y : Thread M). y .config) (sym q)) (subst (λ (y : Thread M). AtMost (c .thread .trail) (y .trail)) (sym q) (c .under))
       stay th k e q (inr d) = absurd (dead-hope M n th l d (hopeful-same M n x th (ap (λ (y : Thread M). y .config) (sym q)) h))
 
       move : (th : Thread M) → In th all → Moved M n th x → unended M x ≡ true → Covered M w th ⊎ Dead M n (th .config) → Covered M (advance M n w) x
-      move th k v u (inl c) = enter (c .thread) y (c .member) (only-rest (stays M n (c .thread)) (c .thread) (keep-out (unended M) (shifted M n th x (c .thread) (c .config-is) v) open-still)) refl (shifted-under M n th x (c .thread) v (long th k c) (c .under))
+      move th k v u (inl c) =
+          enter (c .thread) y (c .member)
+          (only-rest (stays M n (c .thread)) (c .thread) (keep-out (unended M) (shifted M n th x (c .thread) (c .config-is) v) open-still)) refl
+          (shifted-under M n th x (c .thread) v (long th k c) (c .under))
         where
           y : Thread M
           y = stepped M (c .thread) n (v .number) (x .config)
 
           open-still : unended M y ≡ true
-          open-still = unended-out M y (unended-in M x u .0) (omega (arith, unended-in M x u .1, move-length M n th x v, length-append (c .thread .trail) (record { event = n; step = v .number } ∷ []), long th k c))
+          open-still = unended-out M y (unended-in M x u .0) (omega (
+            arith,
+            unended-in M x u .1,
+            move-length M n th x v,
+            length-append (c .thread .trail)
+                (record { event = n; step = v .number } ∷ []),
+            long th k c,
+          ))
       move th k v u (inr d) = absurd (dead-moves M n th x l d v)
 
       of : Given (offers M n) all x → Covered M (advance M n w) x
@@ -170,7 +196,8 @@ module _ (M : Machine) (L : Laws M) where
   same-count : (i n : ℕ) (w all : List (Thread M)) → n < events → Exact M i n all → Selects M n w all → length (advance M n w) ≡ waitingCount M n (next M n all)
   unfolding waiting waitingCount advance
   same-count i n w all l ex s =
-      sym (length-map (advance M n w) config) ∙ same-length (configs M (advance M n w)) (waiting M n (next M n all)) (insertAll-once M L [] (candidates M n w) tt) (distinct-once same (L .same-equal) (L .equal-same) hoped) to back
+      sym (length-map (advance M n w) config) ∙ same-length (configs M (advance M n w)) (waiting M n (next M n all))
+      (insertAll-once M L [] (candidates M n w) tt) (distinct-once same (L .same-equal) (L .equal-same) hoped) to back
     where
       config : Thread M → Config
       config th = th .config
@@ -184,7 +211,8 @@ module _ (M : Machine) (L : Laws M) where
           of : Image (λ (th : Thread M). th .config) (advance M n w) c → In c (waiting M n (next M n all))
           of g =
               let q = advanced n w all s (g .source) (g .member) in
-              subst (λ z. In z (waiting M n (next M n all))) (sym (g .is)) (distinct-out same (L .same-equal) (L .equal-same) (map-out (λ (th : Thread M). th .config) (keep-out (hopeful M n) (q .member) (q .passes))))
+              subst (λ z. In z (waiting M n (next M n all))) (sym (g .is)) (distinct-out same (L .same-equal) (L .equal-same)
+              (map-out (λ (th : Thread M). th .config) (keep-out (hopeful M n) (q .member) (q .passes))))
 
       back : (c : Config) → In c (waiting M n (next M n all)) → In c (configs M (advance M n w))
       back c m = of (map-in (λ (th : Thread M). th .config) (keep (hopeful M n) (next M n all)) (distinct-in same (L .same-equal) (L .equal-same) hoped m))
@@ -195,7 +223,8 @@ module _ (M : Machine) (L : Laws M) where
               let k = candidate i n w all l ex s (g .source) (q .member) (q .passes) in
               subst (λ z. In z (configs M (advance M n w))) (k .config-is ∙ sym (g .is)) (map-out (λ (th : Thread M). th .config) (k .member))
 
-  selects-next : (i n : ℕ) (w all : List (Thread M)) → L .first ≤ i → i ≤ n → n < events → Exact M i n all → Selects M n w all → Selects M (suc n) (advance M n w) (next M n all)
+  selects-next : (i n : ℕ) (w all : List (Thread M)) → L .first ≤ i → i ≤ n → n < events → Exact M i n all → Selects M n w all
+      → Selects M (suc n) (advance M n w) (next M n all)
   selects-next i n w all z h l ex s = record { from = λ th m. advanced n w all s th m .member; covers = λ th m. go th m (hopeful M n th) refl }
     where
       go : (th : Thread M) → In th (next M n all) → (b : Bool) → hopeful M n th ≡ b → Covered M (advance M n w) th ⊎ Dead M (suc n) (th .config)
@@ -204,14 +233,16 @@ module _ (M : Machine) (L : Laws M) where
 
   -- ---- the same answer
 
-  same-scan : (slots i f n p : ℕ) (w all : List (Thread M)) → L .first ≤ i → i ≤ n → n + f ≡ events → Exact M i n all → Selects M n w all → scan M (advance M) (λ m ths. length ths) slots f n w p ≡ scan M (next M) (waitingCount M) slots f n all p
+  same-scan : (slots i f n p : ℕ) (w all : List (Thread M)) → L .first ≤ i → i ≤ n → n + f ≡ events → Exact M i n all → Selects M n w all
+      → scan M (advance M) (λ m ths. length ths) slots f n w p ≡ scan M (next M) (waitingCount M) slots f n all p
   unfolding scan
   same-scan slots i zero n p w all z h e x s = refl
   same-scan slots i (suc f) n p w all z h e x s =
       ap₂ (λ (o : Option (Thread M)) (a : Answer M). outcome M o p a) (same-endings i n w all l x s)
       (ap₂ (λ (k : ℕ) (a : Answer M). overfull M (ltb slots k) n a) count
       (ap (λ (k : ℕ). scan M (advance M) (λ m ths. length ths) slots f (suc n) (advance M n w) (max p k)) count ∙
-      same-scan slots i f (suc n) (max p (waitingCount M n (next M n all))) (advance M n w) (next M n all) z (omega (arith, h)) (omega (arith, e)) (exact-next M i n all h l x) (selects-next i n w all z h l x s)))
+      same-scan slots i f (suc n) (max p (waitingCount M n (next M n all))) (advance M n w) (next M n all) z (omega (arith, h)) (omega (arith, e))
+      (exact-next M i n all h l x) (selects-next i n w all z h l x s)))
     where
       l : n < events
       l = omega (arith, e)
@@ -224,12 +255,14 @@ module _ (M : Machine) (L : Laws M) where
   follow-scan slots zero n p w = refl
   follow-scan slots (suc f) n p w =
       ap (outcome M (least M (endings M n w)) p)
-      (ap (λ o. onward M o n (λ more. follow M slots f (suc n) more (max p (length more)))) (fits M slots [] (candidates M n w) zero-le) ∙ go (ltb slots (length (advance M n w))) (follow-scan slots f (suc n) (max p (length (advance M n w))) (advance M n w)))
+      (ap (λ o. onward M o n (λ more. follow M slots f (suc n) more (max p (length more)))) (fits M slots [] (candidates M n w) zero-le)
+      ∙ go (ltb slots (length (advance M n w))) (follow-scan slots f (suc n) (max p (length (advance M n w))) (advance M n w)))
     where
       rest : Answer M
       rest = scan M (advance M) (λ m ths. length ths) slots f (suc n) (advance M n w) (max p (length (advance M n w)))
 
-      go : (b : Bool) → follow M slots f (suc n) (advance M n w) (max p (length (advance M n w))) ≡ rest → onward M (within M b (some (advance M n w))) n (λ more. follow M slots f (suc n) more (max p (length more))) ≡ overfull M b n rest
+      go : (b : Bool) → follow M slots f (suc n) (advance M n w) (max p (length (advance M n w))) ≡ rest
+          → onward M (within M b (some (advance M n w))) n (λ more. follow M slots f (suc n) more (max p (length more))) ≡ overfull M b n rest
       go true ih = refl
       go false ih = ih
 
@@ -238,4 +271,8 @@ module _ (M : Machine) (L : Laws M) where
   unfolding threads search
   threads-search slots i z h =
       follow-scan slots (events - i) i 0 (origin M) ∙
-      same-scan slots i (events - i) i 0 (origin M) (origin M) z (le-refl i) (omega (arith, h)) (exact-origin M L i) (record { from = λ th m. m; covers = λ th m. inl (covered-self M (origin M) th m) })
+      same-scan slots i (events - i) i 0 (origin M) (origin M) z (le-refl i) (omega (arith, h)) (exact-origin M L i) (record {
+        from =
+            λ th m. m;
+        covers = λ th m. inl (covered-self M (origin M) th m);
+      })

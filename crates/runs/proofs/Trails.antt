@@ -5,9 +5,15 @@ use mathlib.Core.List.{[], _∷_, _++_}
 use Prim.Native.Nat.{ℕ, suc, _+_, _≤_, _<_}
 use native.Mathlib.Omega.{arith}
 use lib.ListN.{length, length-append}
-use Rattle.runs.specs.Machine.{Machine, Laws}
-use Rattle.runs.specs.Run.{Entry, Trail, lastOr, last, after, Takes, Follow, Run}
+use Rattle.runs.specs.Machine.{Machine}
+use Rattle.runs.specs.inner.Laws.{Laws}
+use Rattle.runs.specs.Run.{Entry, Trail, lastOr, last, Takes, Follow, Run}
 use Rattle.runs.proofs.Comparison.{Rising}
+
+-- the first event after a trail's last one; s for the empty trail
+abbrev pub after : ℕ → Trail → ℕ
+after s [] = s
+after s (x ∷ t) = after (suc (x .event)) t
 
 pub after-snoc : (s : ℕ) (t : Trail) (x : Entry) → after s (t ++ (x ∷ [])) ≡ suc (x .event)
 after-snoc s [] x = refl
@@ -36,7 +42,8 @@ module _ (M : Machine) where
   follow-rising c e s [] f = tt
   follow-rising c e s (x ∷ t) f = (f .1 .later, follow-rising (f .0) e (suc (x .event)) t (f .2))
 
-  pub follow-snoc : (c d e : Config) (s : ℕ) (t : Trail) (x : Entry) → Follow M c s t d → Takes M d (after s t) (x .event) (x .step) e → Follow M c s (t ++ (x ∷ [])) e
+  pub follow-snoc : (c d e : Config) (s : ℕ) (t : Trail) (x : Entry) → Follow M c s t d → Takes M d (after s t) (x .event) (x .step) e
+      → Follow M c s (t ++ (x ∷ [])) e
   follow-snoc c d e s [] x f k = (e, subst (λ z. Takes M z s (x .event) (x .step) e) (sym f) k, refl)
   follow-snoc c d e s (y ∷ t) x f k = (f .0, f .1, follow-snoc (f .0) d e (suc (y .event)) t x (f .2) k)
 
@@ -50,7 +57,8 @@ module _ (M : Machine) where
     pub taken : Takes M middle (after s front) (end .event) (end .step) e
 
   pub follow-part : (c e : Config) (s : ℕ) (x : Entry) (t : Trail) → Follow M c s (x ∷ t) e → Parted c s (x ∷ t) e
-  follow-part c e s x [] f = record { front = []; end = x; middle = c; is = refl; before = refl; taken = subst (λ z. Takes M c s (x .event) (x .step) z) (f .2) (f .1) }
+  follow-part c e s x [] f =
+      record { front = []; end = x; middle = c; is = refl; before = refl; taken = subst (λ z. Takes M c s (x .event) (x .step) z) (f .2) (f .1) }
   follow-part c e s x (y ∷ t) f = go (follow-part (f .0) e (suc (x .event)) y t (f .2))
     where
       go : Parted (f .0) (suc (x .event)) (y ∷ t) e → Parted c s (x ∷ (y ∷ t)) e

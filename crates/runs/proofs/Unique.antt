@@ -1,17 +1,20 @@
--- Only one answer meets the demand.
+-- Only one answer meets the demand: the one that the search gives.
 use mathlib.Core.Path.{_≡_, refl, sym, ap, subst}
-use mathlib.Core.Logic.{_⊎_, inl, inr}
+use mathlib.Core.Logic.{_⊎_, inl, inr, _↔_}
 use Prim.Native.Nat.{ℕ, _≤_, _<_}
 use native.Mathlib.Nat.{le-antisymm}
 use native.Mathlib.Decide.{decLt}
 use native.Mathlib.Omega.{arith}
 use Rattle.runs.specs.Machine.{Machine}
+use Rattle.runs.specs.inner.Laws.{Laws}
 use Rattle.runs.specs.Run.{Trail, last, Follow}
 use Rattle.runs.specs.Order.{Later}
-use Rattle.runs.specs.Search.{Answer, found, absent, crowded}
+use Rattle.runs.specs.Answer.{Answer, found, absent, crowded}
+use Rattle.runs.specs.inner.Search.{search}
 use Rattle.runs.specs.Demand.{Peak, FirstCrowded, Named, Demand}
 use Rattle.runs.proofs.Comparison.{later-asym}
 use Rattle.runs.proofs.Trails.{follow-one}
+use Rattle.runs.proofs.Meets.{search-meets}
 
 module _ (M : Machine) where
   open Machine M using (Config, start, events)
@@ -26,7 +29,8 @@ module _ (M : Machine) where
   peak-one : (i e p q : ℕ) → Peak M i e p → Peak M i e q → p ≡ q
   peak-one i e p q a b = le-antisymm (peak-most i e p q a b) (peak-most i e q p b a)
 
-  named-one : (slots i : ℕ) (c d : Config) (t u : Trail) (p q : ℕ) → Named M slots i c t p → Named M slots i d u q → _≡_ {A = Answer M} (found c t p) (found d u q)
+  named-one : (slots i : ℕ) (c d : Config) (t u : Trail) (p q : ℕ) → Named M slots i c t p → Named M slots i d u q
+      → _≡_ {A = Answer M} (found c t p) (found d u q)
   named-one slots i c d t u p q a b = λ j. found (configs j) (trails j) (peaks j)
     where
       go : (u ≡ t) ⊎ Later t u → (t ≡ u) ⊎ Later u t → t ≡ u
@@ -60,3 +64,9 @@ module _ (M : Machine) where
   only-one slots i (crowded m) (found d u q) x y = absurd (y .roomy m (x .here))
   only-one slots i (crowded m) (absent q) x y = absurd (y .roomy m (x .here))
   only-one slots i (crowded m) (crowded n) x y = ap {B = Answer M} crowded (le-antisymm (crowded-first slots i m n x y) (crowded-first slots i n m y x))
+
+-- the answer of a search is the one that the demand describes, in both directions
+pub exactly : (M : Machine) (L : Laws M) (slots i : ℕ) → i ≤ M .events → (a : Answer M) → (search M slots i ≡ a) ↔ Demand M slots i a
+exactly M L slots i h a =
+    let met = search-meets M L slots i h in
+    (λ e. subst (Demand M slots i) e met, λ d. only-one M slots i (search M slots i) a met d)

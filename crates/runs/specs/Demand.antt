@@ -6,7 +6,7 @@ use Rattle.runs.specs.Machine.{Machine}
 use Rattle.runs.specs.Run.{Trail, last, Run}
 use Rattle.runs.specs.Order.{Later}
 use Rattle.runs.specs.Waiting.{Count}
-use Rattle.runs.specs.Search.{Answer, found, absent, crowded}
+use Rattle.runs.specs.Answer.{Answer, found, absent, crowded}
 
 module _ (M : Machine) where
   open Machine M using (Config, events)

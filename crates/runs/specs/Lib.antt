@@ -3,6 +3,6 @@ pub mod Machine
 pub mod Run
 pub mod Order
 pub mod Waiting
-pub mod Search
-pub mod Threads
+pub mod Answer
 pub mod Demand
+pub mod inner

@@ -1,8 +1,7 @@
--- The abstract machine that a search follows, and the laws that are asked of it.
-use mathlib.Core.Path.{_≡_}
-use mathlib.Core.Bool.{Bool, true, false}
-use mathlib.Core.Option.{Option, none, some}
-use Prim.Native.Nat.{ℕ, suc, _≤_, _<_}
+-- The abstract machine that a search follows, and the range of a search.
+use mathlib.Core.Bool.{Bool}
+use mathlib.Core.Option.{Option}
+use Prim.Native.Nat.{ℕ}
 
 -- A machine. Only events below `events` are ever looked at; the step numbers are those below `steps`.
 pub record Machine : Type 1 where
@@ -20,22 +19,17 @@ pub record Machine : Type 1 where
   pub steps : ℕ
   pub events : ℕ
 
--- What a machine must keep for the search to be exact.
-pub record Laws (M : Machine) : Type 1 where
-  -- two configurations are the same exactly when they are equal
-  pub same-equal : (c d : M .Config) → M .same c d ≡ true → c ≡ d
-  pub equal-same : (c : M .Config) → M .same c c ≡ true
-  -- what holds of every configuration that a run reaches
-  pub Valid : M .Config → Type 0
-  pub valid-start : Valid (M .start)
-  pub valid-fire : (c d : M .Config) (n k : ℕ) → Valid c → M .fire c n k ≡ some d → Valid d
-  -- 'dead start' is refused
-  pub start-open : M .final (M .start) ≡ false
-  -- from event `first` on: a step expired after n is expired after every later event, and fires on none
-  pub first : ℕ
-  pub stable : (c : M .Config) (k n m : ℕ) → Valid c → first ≤ n → n < m → m < M .events → M .expired c k n ≡ true → M .expired c k m ≡ true
-  pub silent : (c : M .Config) (k n m : ℕ) → Valid c → first ≤ n → n < m → m < M .events → M .expired c k n ≡ true → M .fire c m k ≡ none
-  -- the number of steps that led to a configuration (its counters added up)
-  pub weight : M .Config → ℕ
-  pub weight-start : weight (M .start) ≡ 0
-  pub weight-fire : (c d : M .Config) (n k : ℕ) → M .fire c n k ≡ some d → weight d ≡ suc (weight c)
+-- The range of a search: the same machine with another number of events, so that events from e on are not looked at.
+abbrev pub upto : Machine → ℕ → Machine
+upto M e =
+    record {
+      Config = M .Config;
+      same = M .same;
+      start = M .start;
+      committed = M .committed;
+      final = M .final;
+      fire = M .fire;
+      expired = M .expired;
+      steps = M .steps;
+      events = e;
+    }

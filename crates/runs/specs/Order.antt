@@ -1,8 +1,8 @@
 -- 'Runs are ordered by last event, then by the list of events, then by the list of step numbers, each compared at the
 -- first difference.'
 use mathlib.Core.Path.{_≡_}
-use mathlib.Core.List.{List, [], _∷_, _++_, map}
-use Prim.Native.Nat.{ℕ, _<_, compare, Ordering, Ordering·lt, Ordering·eq, Ordering·gt}
+use mathlib.Core.List.{List, _∷_, _++_, map}
+use Prim.Native.Nat.{ℕ, _<_}
 use Rattle.runs.specs.Run.{Entry, Trail, last}
 
 -- the list of events, the list of step numbers
@@ -28,18 +28,3 @@ pub data Later (t u : Trail) : Type 0 where
   ends-later : last t < last u → Later t u
   later-event : last t ≡ last u → Higher (events t) (events u) → Later t u
   higher-number : events t ≡ events u → Higher (numbers t) (numbers u) → Later t u
-
--- The comparison that is computed, of runs that end on one event: first by the events, then by the step numbers.
-abbrev pub then : Ordering → Ordering → Ordering
-then Ordering·lt o = Ordering·lt
-then Ordering·eq o = o
-then Ordering·gt o = Ordering·gt
-
-unfoldable pub lex : List ℕ → List ℕ → Ordering
-lex [] [] = Ordering·eq
-lex [] (y ∷ ys) = Ordering·lt
-lex (x ∷ xs) [] = Ordering·gt
-lex (x ∷ xs) (y ∷ ys) = then (compare x y) (lex xs ys)
-
-unfoldable pub order : Trail → Trail → Ordering
-order t u = then (lex (events t) (events u)) (lex (numbers t) (numbers u))

@@ -24,11 +24,6 @@ lastOr a (x ∷ t) = lastOr (x .event) t
 abbrev pub last : Trail → ℕ
 last t = lastOr 0 t
 
--- the first event after a trail's last one; s for the empty trail
-abbrev pub after : ℕ → Trail → ℕ
-after s [] = s
-after s (x ∷ t) = after (suc (x .event)) t
-
 -- 'the first on i'
 abbrev pub Starts : ℕ → Trail → Type 0
 Starts i [] = ⊥

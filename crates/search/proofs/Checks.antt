@@ -6,11 +6,11 @@ use borrow.Author.Tests.{lt-ltb, le-ltb, le-leb, lt-leb}
 use lib.ListN.{length}
 use Rattle.refusal.specs.declared.Refusal.{Refusal}
 use Rattle.refusal.specs.declared.Refusal.the-variants.{Outside, Short}
-use Rattle.event_log.specs.Log.{Log}
+use Rattle.event_log.specs.File.{LogFile, logOf}
 use Rattle.event_log.specs.Read as LogRead
 use Rattle.formula.specs.Formula.{Formula}
 use Rattle.formula.specs.Read as FormulaRead
-use Rattle.runs.specs.Search.{search}
+use Rattle.runs.specs.inner.Search.{search}
 use Rattle.machine.specs.Machine.{machine}
 use Rattle.search.specs.Search.{slotsOf, refusal, answerOf, checked, searchAnswer}
 
@@ -19,27 +19,28 @@ module _ (l f : List ℕ) (start words : ℕ) where
   unfolding searchAnswer
   bad-log why e = rw e
 
-  module _ (g : Log) (log-read : LogRead.readLog l ≡ LogRead.accepted g) where
-    pub bad-formula : (why : Refusal) → FormulaRead.readFormula (length (g .fields)) f ≡ FormulaRead.refused why → searchAnswer l f start words ≡ refusal why
+  module _ (t : LogFile) (log-read : LogRead.readLog l ≡ LogRead.accepted t) where
+    pub bad-formula : (why : Refusal) → FormulaRead.readFormula (length (t .fields)) f ≡ FormulaRead.refused why → searchAnswer l f start words ≡ refusal why
     unfolding searchAnswer
     bad-formula why q = rw (log-read, q)
 
-    module _ (fm : Formula) (formula-read : FormulaRead.readFormula (length (g .fields)) f ≡ FormulaRead.accepted fm) where
-      both-read : searchAnswer l f start words ≡ checked g fm start words
+    module _ (fm : Formula) (formula-read : FormulaRead.readFormula (length (t .fields)) f ≡ FormulaRead.accepted fm) where
+      both-read : searchAnswer l f start words ≡ checked (logOf t) fm start words
       unfolding searchAnswer
       both-read = rw (log-read, formula-read)
 
       -- 9, however few words are lent
-      pub outside : length (g .events) ≤ start → searchAnswer l f start words ≡ refusal (Outside start)
+      pub outside : length ((logOf t) .events) ≤ start → searchAnswer l f start words ≡ refusal (Outside start)
       unfolding checked
-      outside h = both-read ∙ rw (le-leb (length (g .events)) start h)
+      outside h = both-read ∙ rw (le-leb (length ((logOf t) .events)) start h)
 
       -- 10, where the start is one of the events
-      pub short : start < length (g .events) → words < 192 → searchAnswer l f start words ≡ refusal (Short 192)
+      pub short : start < length ((logOf t) .events) → words < 192 → searchAnswer l f start words ≡ refusal (Short 192)
       unfolding checked
-      short h k = both-read ∙ rw (lt-leb (length (g .events)) start h, lt-ltb words 192 k)
+      short h k = both-read ∙ rw (lt-leb (length ((logOf t) .events)) start h, lt-ltb words 192 k)
 
       -- then the runs decide
-      pub searched : start < length (g .events) → 192 ≤ words → searchAnswer l f start words ≡ answerOf g fm (search (machine g fm) (slotsOf words) start)
+      pub searched : start < length ((logOf t) .events) → 192 ≤ words
+          → searchAnswer l f start words ≡ answerOf (logOf t) fm (search (machine (logOf t) fm) (slotsOf words) start)
       unfolding checked
-      searched h k = both-read ∙ rw (lt-leb (length (g .events)) start h, le-ltb words 192 k)
+      searched h k = both-read ∙ rw (lt-leb (length ((logOf t) .events)) start h, le-ltb words 192 k)

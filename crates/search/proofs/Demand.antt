@@ -1,6 +1,6 @@
 -- The search over accepted files meets the third demand, and only its answer does.
 use Prim.Native.Nat.{ℕ, _≤_, _<_}
-use mathlib.Core.Path.{_≡_, refl, sym, _∙_}
+use mathlib.Core.Path.{_≡_, refl, sym, subst, _∙_}
 use mathlib.Core.Bool.{Bool, true, false, cond}
 use mathlib.Core.List.{List}
 use native.Mathlib.Omega.{arith}
@@ -12,7 +12,8 @@ use Rattle.refusal.specs.Refusals.{NotCrowded}
 use Rattle.event_log.specs.Log.{Log}
 use Rattle.formula.specs.Formula.{Formula}
 use Rattle.runs.specs.Run.{Trail}
-use Rattle.runs.specs.Search.{Answer, found, absent, crowded, search}
+use Rattle.runs.specs.inner.Search.{search}
+use Rattle.runs.specs.Answer.{Answer, found, absent, crowded}
 use Rattle.runs.specs.Demand as Runs
 use Rattle.runs.proofs.Meets.{search-meets}
 use Rattle.runs.proofs.Unique.{only-one}
@@ -23,13 +24,17 @@ use Rattle.machine.proofs.Machine.{Premises, laws}
 use Rattle.search.specs.declared.Verdict.the-variants.{Refused, Absent, Accept, Reject}
 use Rattle.search.specs.declared.SearchAnswer.{SearchAnswer}
 use Rattle.search.specs.Search.{slotsOf, answerOf, searchAnswer}
-use Rattle.search.specs.Demand.{Names, Nothing, Carries, Demand}
+use Rattle.search.specs.inner.Demand.{Names, Nothing, Carries, Demand}
 use Rattle.search.proofs.Checks.{searched}
 use Rattle.search.proofs.Premises.{Accepted, accepted-premises, ends-valid}
 
 -- of accepted files, a start below the event count and 192 words or more, the answer is that of the runs
-pub search-runs : (l f : List ℕ) (log : Log) (formula : Formula) (start words : ℕ) → Accepted l f log formula → start < length (log .events) → 192 ≤ words → searchAnswer l f start words ≡ answerOf log formula (search (machine log formula) (slotsOf words) start)
-search-runs l f log formula start words a h k = searched l f start words log (a .log-read) formula (a .formula-read) h k
+pub search-runs : (l f : List ℕ) (log : Log) (formula : Formula) (start words : ℕ) → Accepted l f log formula → start < length (log .events) → 192 ≤ words
+    → searchAnswer l f start words ≡ answerOf log formula (search (machine log formula) (slotsOf words) start)
+search-runs l f log formula start words a h k =
+    subst (λ (g : Log). start < length (g .events) → searchAnswer l f start words ≡ answerOf g formula (search (machine g formula) (slotsOf words) start))
+    (sym (a .records))
+    (λ i. searched l f start words (a .file) (a .log-read) formula (a .formula-read) i k) h
 
 -- a search that runs is refused with nothing but crowded
 pub only-crowded : (g : Log) (fm : Formula) (a : Answer (machine g fm)) (why : Refusal) → answerOf g fm a .verdict ≡ Refused why → NotCrowded why → ⊥
@@ -58,7 +63,8 @@ module _ (log : Log) (formula : Formula) (P : Premises log formula) (slots start
   is-answer a d = only-one (machine log formula) slots start found-answer a met d
 
   -- the verdict of an answer, told back
-  verdict-crowded : (a : Answer (machine log formula)) (n : ℕ) → Runs.Demand (machine log formula) slots start a → (answerOf log formula a) .verdict ≡ Refused (Crowded n) → Runs.FirstCrowded (machine log formula) slots start n
+  verdict-crowded : (a : Answer (machine log formula)) (n : ℕ) → Runs.Demand (machine log formula) slots start a
+      → (answerOf log formula a) .verdict ≡ Refused (Crowded n) → Runs.FirstCrowded (machine log formula) slots start n
   verdict-crowded (found c t w) n d e = go (accepting formula c) refl
     where
       go : (b : Bool) → accepting formula c ≡ b → Runs.FirstCrowded (machine log formula) slots start n
@@ -67,7 +73,8 @@ module _ (log : Log) (formula : Formula) (P : Premises log formula) (slots start
   verdict-crowded (absent w) n d e = let z : _≡_ {A = ℕ} 0 1 = cc in absurd (omega arith)
   verdict-crowded (crowded m) n d e = let q : m ≡ n = cc in rw q at d
 
-  verdict-absent : (a : Answer (machine log formula)) → Runs.Demand (machine log formula) slots start a → (answerOf log formula a) .verdict ≡ Absent → Nothing log formula slots start
+  verdict-absent : (a : Answer (machine log formula)) → Runs.Demand (machine log formula) slots start a → (answerOf log formula a) .verdict ≡ Absent
+      → Nothing log formula slots start
   verdict-absent (found c t w) d e = go (accepting formula c) refl
     where
       go : (b : Bool) → accepting formula c ≡ b → Nothing log formula slots start
@@ -76,7 +83,8 @@ module _ (log : Log) (formula : Formula) (P : Premises log formula) (slots start
   verdict-absent (absent w) d e = record { width = w; absent = d }
   verdict-absent (crowded m) d e = let z : _≡_ {A = ℕ} 0 1 = cc in absurd (omega arith)
 
-  verdict-named : (a : Answer (machine log formula)) (b : Bool) → Runs.Demand (machine log formula) slots start a → (answerOf log formula a) .verdict ≡ cond b Accept Reject → Names log formula slots start b
+  verdict-named : (a : Answer (machine log formula)) (b : Bool) → Runs.Demand (machine log formula) slots start a
+      → (answerOf log formula a) .verdict ≡ cond b Accept Reject → Names log formula slots start b
   verdict-named (found c t w) b d e = record { config = c; trail = t; width = w; named = d; kind = go (accepting formula c) b e }
     where
       go : (x y : Bool) → cond x Accept Reject ≡ cond y Accept Reject → x ≡ y
@@ -96,7 +104,17 @@ module _ (log : Log) (formula : Formula) (P : Premises log formula) (slots start
   carried c t w d =
       let v = ends-valid log formula P c start t (d .run .path .follows) in
       rw (is-answer (found c t w) d)
-      (record { steps = refl; events = refl; numbers = refl; held = λ v. refl; values = λ v h. refl; unused = v .unheld-0; eight = (v .held-8, v .values-8); width = refl })
+      (record {
+        steps = refl;
+        events = refl;
+        numbers = refl;
+        held = λ v. refl;
+        values = λ v h. refl;
+        unused = v .unheld-0;
+        eight =
+            (v .held-8, v .values-8);
+        width = refl;
+      })
 
   pub meets : Demand log formula slots start given
   meets =
@@ -111,7 +129,8 @@ module _ (log : Log) (formula : Formula) (P : Premises log formula) (slots start
       }
 
   -- two answers that carry one run with one verdict are one
-  same-run : (s r : SearchAnswer) (c : Config) (t : Trail) (w : ℕ) → s .verdict ≡ r .verdict → Carries log formula slots start s c t w → Carries log formula slots start r c t w → s ≡ r
+  same-run : (s r : SearchAnswer) (c : Config) (t : Trail) (w : ℕ) → s .verdict ≡ r .verdict → Carries log formula slots start s c t w
+      → Carries log formula slots start r c t w → s ≡ r
   same-run s r c t w e a b =
       λ i. record { verdict = e i; steps = steps i; events = events i; numbers = numbers i; held = held i; values = values i; width = width i }
     where
@@ -151,11 +170,13 @@ module _ (log : Log) (formula : Formula) (P : Premises log formula) (slots start
       go (crowded n) q m = d .refused n m
 
 -- The third demand: of accepted files, a start below the event count and 192 words or more, the answer meets it.
-pub third-demand : (l f : List ℕ) (log : Log) (formula : Formula) (start words : ℕ) → Accepted l f log formula → start < length (log .events) → 192 ≤ words → Demand log formula (slotsOf words) start (searchAnswer l f start words)
+pub third-demand : (l f : List ℕ) (log : Log) (formula : Formula) (start words : ℕ) → Accepted l f log formula → start < length (log .events) → 192 ≤ words
+    → Demand log formula (slotsOf words) start (searchAnswer l f start words)
 third-demand l f log formula start words a h k =
     rw (search-runs l f log formula start words a h k) (meets log formula (accepted-premises l f log formula a) (slotsOf words) start h)
 
 -- And no other answer does.
-pub third-demand-only : (l f : List ℕ) (log : Log) (formula : Formula) (start words : ℕ) → Accepted l f log formula → start < length (log .events) → 192 ≤ words → (s : SearchAnswer) → Demand log formula (slotsOf words) start s → s ≡ searchAnswer l f start words
+pub third-demand-only : (l f : List ℕ) (log : Log) (formula : Formula) (start words : ℕ) → Accepted l f log formula → start < length (log .events) → 192 ≤ words
+    → (s : SearchAnswer) → Demand log formula (slotsOf words) start s → s ≡ searchAnswer l f start words
 third-demand-only l f log formula start words a h k s d =
     rw (search-runs l f log formula start words a h k) (only-answer log formula (accepted-premises l f log formula a) (slotsOf words) start h s d)

@@ -1,10 +1,11 @@
 -- Accepted files make a machine that keeps the laws; every configuration that its steps reach is valid.
 use Prim.Native.Nat.{ℕ, suc}
-use mathlib.Core.Path.{_≡_, subst}
+use mathlib.Core.Path.{_≡_, sym, subst}
 use mathlib.Core.List.{List, [], _∷_}
 use lib.ListN.{length}
 use Rattle.base.specs.Lists.{Bytes}
 use Rattle.event_log.specs.Log.{Log}
+use Rattle.event_log.specs.File.{LogFile, logOf}
 use Rattle.event_log.specs.Read as LogRead
 use Rattle.event_log.proofs.Accepted.{accepted-is-encoding}
 use Rattle.formula.specs.Formula.{Formula}
@@ -16,21 +17,27 @@ use Rattle.machine.proofs.Machine.{Premises, valid-start, valid-fire}
 use Rattle.machine.proofs.Premises.{premises}
 use Rattle.formula.proofs.Reading.{accepted-correct}
 
--- two files that are accepted, as a log and a formula
+-- two files that are accepted, as a file that records the log and a formula
 pub record Accepted (l f : List ℕ) (log : Log) (formula : Formula) : Type 0 where
   pub log-bytes : Bytes l
   pub formula-bytes : Bytes f
-  pub log-read : LogRead.readLog l ≡ LogRead.accepted log
-  pub formula-read : FormulaRead.readFormula (length (log .fields)) f ≡ FormulaRead.accepted formula
+  pub file : LogFile
+  pub records : log ≡ logOf file
+  pub log-read : LogRead.readLog l ≡ LogRead.accepted file
+  pub formula-read : FormulaRead.readFormula (length (file .fields)) f ≡ FormulaRead.accepted formula
 
 -- accepted files give what the laws need
 pub accepted-premises : (l f : List ℕ) (log : Log) (formula : Formula) → Accepted l f log formula → Premises log formula
 accepted-premises l f log formula a =
-    premises log formula (accepted-is-encoding l log (a .log-bytes) (a .log-read) .1) (accepted-correct (length (log .fields)) f formula (a .formula-bytes) (a .formula-read) .1)
+    let t = a .file in
+    let ok = accepted-is-encoding l t (a .log-bytes) (a .log-read) .1 in
+    subst (λ (g : Log). Premises g formula) (sym (a .records))
+    (premises (logOf t) formula (ok .recorded) (accepted-correct (length (t .fields)) f formula (a .formula-bytes) (a .formula-read) .1))
 
 module _ (log : Log) (formula : Formula) (P : Premises log formula) where
   -- what a trail leads to is valid
-  follow-valid : (c e : Config) (s : ℕ) (t : Trail) → Valid (length (formula .states)) c → Follow (machine log formula) c s t e → Valid (length (formula .states)) e
+  follow-valid : (c e : Config) (s : ℕ) (t : Trail) → Valid (length (formula .states)) c → Follow (machine log formula) c s t e
+      → Valid (length (formula .states)) e
   follow-valid c e s [] v h = subst (Valid (length (formula .states))) h v
   follow-valid c e s (x ∷ t) v h = follow-valid (h .0) e (suc (x .event)) t (valid-fire log formula P c (h .0) (x .event) (x .step) v (h .1 .fires)) (h .2)
 

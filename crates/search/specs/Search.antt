@@ -8,11 +8,13 @@ use Rattle.base.specs.Lists.{pad}
 use Rattle.refusal.specs.declared.Refusal.{Refusal}
 use Rattle.refusal.specs.declared.Refusal.the-variants.{Outside, Short, Crowded}
 use Rattle.event_log.specs.Log.{Log}
+use Rattle.event_log.specs.File.{logOf}
 use Rattle.event_log.specs.Read as LogRead
 use Rattle.formula.specs.Formula.{Formula}
 use Rattle.formula.specs.Read as FormulaRead
 use Rattle.runs.specs.Order.{events, numbers}
-use Rattle.runs.specs.Search.{Answer, found, absent, crowded, search}
+use Rattle.runs.specs.inner.Search.{search}
+use Rattle.runs.specs.Answer.{Answer, found, absent, crowded}
 use Rattle.machine.specs.Machine.{machine, accepting}
 use Rattle.search.specs.declared.Verdict.{Verdict}
 use Rattle.search.specs.declared.Verdict.the-variants.{Refused, Absent, Accept, Reject}
@@ -58,7 +60,7 @@ withFormula g (FormulaRead.accepted f) start words = checked g f start words
 withFormula g (FormulaRead.refused r) start words = refusal r
 
 abbrev pub withLog : LogRead.Reading → List ℕ → ℕ → ℕ → SearchAnswer
-withLog (LogRead.accepted g) f start words = withFormula g (FormulaRead.readFormula (length (g .fields)) f) start words
+withLog (LogRead.accepted t) f start words = withFormula (logOf t) (FormulaRead.readFormula (length (t .fields)) f) start words
 withLog (LogRead.refused r) f start words = refusal r
 
 -- The search's answer: from the bytes of the log and the formula, the start, the number of lent work words.

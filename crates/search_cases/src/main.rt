@@ -76,7 +76,7 @@ fn show(name: &[u8], l: &[u8], f: &[u8], start: usize, work: &mut [u32]) {
     put(name);
     put_number(b" ", start);
     put_number(b" ", work.len());
-    let r = engine::search(l, f, start, work);
+    let r = search_code::search(l, f, start, work);
     let verdict = r.verdict;
     match verdict {
         Verdict::Refused(why) => put_refusal(why),

@@ -9,22 +9,24 @@ use lib.ListN.{length, getD, take, drop, drop-of-length-le, List·getD-map}
 use lib.Dec.{eqb}
 use lib.Seq.{drop-cons}
 use Rattle.base.specs.Lists.{sameList}
-use Rattle.runs.specs.Order.{then, lex}
+use Rattle.runs.specs.inner.Order.{then, lex}
 use Rattle.runs.proofs.Comparison.{compare-self, less-compare}
-use Rattle.slots.specs.declared.Thread.{Thread}
-use Rattle.slots.specs.Threads.{sameConfig, key}
-use Rattle.slots.specs.Words.{bit, threadOf}
+use Rattle.machine.specs.Configuration.{same}
+use Rattle.machine_code.specs.declared.Configuration.{Configuration}
+use Rattle.machine_code.specs.inner.Bytes.{configOf}
+use Rattle.slots.specs.inner.Threads.{key}
+use Rattle.slots.specs.inner.Words.{isSet, threadOf}
 use borrow.Author.Tests.{eq-eqb, ne-eqb}
 
 -- a word against a flag, by the flag
-pub agrees-held : (w : ℕ) (h : Bool) → h ≡ true → not (eqb w 0) ≡ Bool·beq (bit w) h
+pub agrees-held : (w : ℕ) (h : Bool) → h ≡ true → not (eqb w 0) ≡ Bool·beq (isSet w) h
 agrees-held w h e = rw e (go (not (eqb w 0)))
   where
     go : (b : Bool) → b ≡ Bool·beq b true
     go true = refl
     go false = refl
 
-pub agrees-free : (w : ℕ) (h : Bool) → h ≡ false → eqb w 0 ≡ Bool·beq (bit w) h
+pub agrees-free : (w : ℕ) (h : Bool) → h ≡ false → eqb w 0 ≡ Bool·beq (isSet w) h
 agrees-free w h e = rw e (go (eqb w 0))
   where
     go : (b : Bool) → b ≡ Bool·beq (not b) false
@@ -82,22 +84,23 @@ module _ (xs ys : List ℕ) (i : ℕ) (o : Ordering) (e : o ≡ lex (drop i xs) 
   unfolding lex
   lex-both hx hy = e ∙ rw (drop-of-length-le xs hx, drop-of-length-le ys hy)
 
--- the configuration of words against a thread's, by the first field that differs
-module _ (ws : List ℕ) (b : Thread) where
-  pub differs-state : (getD ws 0 0 ≡ b .state → ⊥) → false ≡ sameConfig (threadOf ws) b
-  unfolding sameConfig threadOf
-  differs-state h = rw (ne-eqb (getD ws 0 0) (b .state) h)
+-- the configuration of words against another, by the first field that differs
+module _ (ws : List ℕ) (c : Configuration) where
+  pub differs-state : (getD ws 0 0 ≡ c .state → ⊥) → false ≡ same (configOf (threadOf ws .config)) (configOf c)
+  unfolding same threadOf
+  differs-state h = rw (ne-eqb (getD ws 0 0) (c .state) h)
 
-  module _ (state : getD ws 0 0 ≡ b .state) where
-    pub differs-held : sameList Bool·beq (map bit (take 8 (drop 1 ws))) (b .held) ≡ false → false ≡ sameConfig (threadOf ws) b
-    unfolding sameConfig threadOf
-    differs-held h = rw (eq-eqb (getD ws 0 0) (b .state) state, h)
+  module _ (state : getD ws 0 0 ≡ c .state) where
+    pub differs-held : sameList Bool·beq (map isSet (take 8 (drop 1 ws))) (c .held) ≡ false → false ≡ same (configOf (threadOf ws .config)) (configOf c)
+    unfolding same threadOf
+    differs-held h = rw (eq-eqb (getD ws 0 0) (c .state) state, h)
 
-    module _ (held : sameList Bool·beq (map bit (take 8 (drop 1 ws))) (b .held) ≡ true) where
-      pub differs-values : sameList eqb (take 8 (drop 9 ws)) (b .values) ≡ false → false ≡ sameConfig (threadOf ws) b
-      unfolding sameConfig threadOf
-      differs-values h = rw (eq-eqb (getD ws 0 0) (b .state) state, held, h)
+    module _ (held : sameList Bool·beq (map isSet (take 8 (drop 1 ws))) (c .held) ≡ true) where
+      pub differs-values : sameList eqb (take 8 (drop 9 ws)) (c .values) ≡ false → false ≡ same (configOf (threadOf ws .config)) (configOf c)
+      unfolding same threadOf
+      differs-values h = rw (eq-eqb (getD ws 0 0) (c .state) state, held, h)
 
-      pub by-counters : sameList eqb (take 8 (drop 9 ws)) (b .values) ≡ true → (r : Bool) → r ≡ sameList eqb (take 16 (drop 17 ws)) (b .counters) → r ≡ sameConfig (threadOf ws) b
-      unfolding sameConfig threadOf
-      by-counters h r e = rw (eq-eqb (getD ws 0 0) (b .state) state, held, h, e)
+      pub by-counters : sameList eqb (take 8 (drop 9 ws)) (c .values) ≡ true → (r : Bool) → r ≡ sameList eqb (take 16 (drop 17 ws)) (c .counters)
+          → r ≡ same (configOf (threadOf ws .config)) (configOf c)
+      unfolding same threadOf
+      by-counters h r e = rw (eq-eqb (getD ws 0 0) (c .state) state, held, h, e)

@@ -12,14 +12,16 @@ module _ {A B : Type 0} (f : A → B) where
   abbrev pub copied : List A → List B → ℕ → List B
   copied src dst i = map f (take i src) ++ drop i dst
 
-  copied-next : (src : List A) (dst : List B) (i : ℕ) (d : A) → length src ≡ length dst → i < length src → set (copied src dst i) i (f (getD src i d)) ≡ copied src dst (suc i)
+  copied-next : (src : List A) (dst : List B) (i : ℕ) (d : A) → length src ≡ length dst → i < length src
+      → set (copied src dst i) i (f (getD src i d)) ≡ copied src dst (suc i)
   copied-next [] dst i d e h = absurd (omega arith)
   copied-next (x ∷ src) [] i d e h = absurd (omega arith)
   copied-next (x ∷ src) (y ∷ dst) zero d e h = refl
   copied-next (x ∷ src) (y ∷ dst) (suc i) d e h = ap (λ l. f x ∷ l) (copied-next src dst i d (omega arith) (omega arith))
 
   -- one turn more
-  pub copied-more : (src : List A) (dst l : List B) (i : ℕ) (d : A) → length src ≡ length dst → i < length src → l ≡ copied src dst i → set l i (f (getD src i d)) ≡ copied src dst (i + 1)
+  pub copied-more : (src : List A) (dst l : List B) (i : ℕ) (d : A) → length src ≡ length dst → i < length src → l ≡ copied src dst i
+      → set l i (f (getD src i d)) ≡ copied src dst (i + 1)
   copied-more src dst l i d e h g = rw (g, add-one i) (copied-next src dst i d e h)
 
   -- at the end nothing is left of what was there

@@ -5,5 +5,4 @@ pub mod Trails
 pub mod Parts
 pub mod Words
 pub mod Slots
-pub mod Insertion
-pub mod Runs
+pub mod ByPlace

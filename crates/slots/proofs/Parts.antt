@@ -6,7 +6,7 @@ use native.Mathlib.Numerals.{add-one}
 use native.Mathlib.Omega.{arith}
 use lib.ListN.{length, getD, take, drop, set, length-append, length-drop, drop-of-length-le, take-append-drop}
 use lib.Seq.{take-length, take-at, drop-at, drop-drop, drop-cons, set-at, length-take-le, take-append-le, drop-append-le, take-take, paste, paste-suc}
-use Rattle.slots.specs.Words.{put}
+use Rattle.slots.specs.inner.Words.{put}
 
 -- a part that lies within the list has its length
 pub part-length : (a n : ℕ) (l : List ℕ) → a + n ≤ length l → length (take n (drop a l)) ≡ n
@@ -29,7 +29,8 @@ put-whole l ws e =
     rw d (append-nil ws)
 
 -- one turn more of writing words
-pub written-more : (l w ws : List ℕ) (at i : ℕ) → at + length ws ≤ length l → i < length ws → w ≡ paste l at ws i → set w (at + i) (getD ws i 0) ≡ paste l at ws (i + 1)
+pub written-more : (l w ws : List ℕ) (at i : ℕ) → at + length ws ≤ length l → i < length ws → w ≡ paste l at ws i
+    → set w (at + i) (getD ws i 0) ≡ paste l at ws (i + 1)
 written-more l w ws at i h k e = rw (e, add-one i) (paste-suc l at ws i 0 (omega arith) k)
 
 pub written-all : (l w ws : List ℕ) (at i : ℕ) → i ≡ length ws → w ≡ paste l at ws i → w ≡ put l at ws
@@ -41,7 +42,8 @@ unfolding put
 put-length l a ws h =
     let t : length (take a l) ≡ a = length-take-le a l (omega arith) in
     let d : length (drop (a + length ws) l) ≡ length l - (a + length ws) = length-drop (a + length ws) l in
-    let p : length (take a l ++ (ws ++ drop (a + length ws) l)) ≡ length (take a l) + length (ws ++ drop (a + length ws) l) = length-append (take a l) (ws ++ drop (a + length ws) l) in
+    let p : length (take a l ++ (ws ++ drop (a + length ws) l)) ≡ length (take a l) + length (ws ++ drop (a + length ws) l) =
+    length-append (take a l) (ws ++ drop (a + length ws) l) in
     let q : length (ws ++ drop (a + length ws) l) ≡ length ws + length (drop (a + length ws) l) = length-append ws (drop (a + length ws) l) in
     omega arith
 
@@ -82,7 +84,8 @@ module _ (l w p : List ℕ) (a : ℕ) (e : w ≡ p ++ drop a l) (s : length p �
   unfolding put
   put-next ws =
       let t : take a (p ++ drop a l) ≡ p = take-at p (drop a l) a s in
-      let d : drop (a + length ws) (p ++ drop a l) ≡ drop (a + length ws) l = sym (drop-drop (length ws) a (p ++ drop a l)) ∙ ap (drop (length ws)) (drop-at p (drop a l) a s) ∙ drop-drop (length ws) a l in
+      let d : drop (a + length ws) (p ++ drop a l) ≡ drop (a + length ws) l = sym (drop-drop (length ws) a (p ++ drop a l))
+      ∙ ap (drop (length ws)) (drop-at p (drop a l) a s) ∙ drop-drop (length ws) a l in
       rw (e, t, d) (sym (append-assoc p ws (drop (a + length ws) l)))
 
   pub set-next : (v : ℕ) → a < length l → set w a v ≡ (p ++ (v ∷ [])) ++ drop (a + 1) l

@@ -9,8 +9,8 @@ use borrow.Author.Tests.{ltb-true, ltb-false}
 use lib.Dec.{ltb}
 use lib.ListN.{length, getD, take, drop, set}
 use Rattle.slots.specs.declared.Thread.{Thread}
-use Rattle.slots.specs.Threads.{Sized}
-use Rattle.slots.specs.Words.{wordsOf, threadOf, threadAt, put, place, threadsFrom, list}
+use Rattle.slots.specs.inner.Threads.{Sized}
+use Rattle.slots.specs.inner.Words.{wordsOf, threadOf, threadAt, put, place, threadsFrom, list}
 use Rattle.slots.proofs.Parts.{drop-put, drop-put-behind, part-put-before}
 use Rattle.slots.proofs.Words.{thread-take, thread-of-words, words-length}
 
@@ -35,10 +35,12 @@ module _ (l : List ℕ) (t : Thread) (s : Sized t) where
       ap threadOf (drop-put-behind l a (wordsOf t) b h (omega arith))
 
   -- storing into one half of a slot leaves the thread of every other half or slot
-  pub stored-elsewhere : (half slot half' slot' : ℕ) → place half slot ≤ length l → (place half' slot' ≡ place half slot → ⊥) → threadAt (put l (place half slot) (wordsOf t)) (place half' slot') ≡ threadAt l (place half' slot')
+  pub stored-elsewhere : (half slot half' slot' : ℕ) → place half slot ≤ length l → (place half' slot' ≡ place half slot → ⊥)
+      → threadAt (put l (place half slot) (wordsOf t)) (place half' slot') ≡ threadAt l (place half' slot')
   stored-elsewhere half slot half' slot' h ne = go (ltb (place half' slot') (place half slot)) refl
     where
-      go : (b : Bool) → ltb (place half' slot') (place half slot) ≡ b → threadAt (put l (place half slot) (wordsOf t)) (place half' slot') ≡ threadAt l (place half' slot')
+      go : (b : Bool) → ltb (place half' slot') (place half slot) ≡ b
+          → threadAt (put l (place half slot) (wordsOf t)) (place half' slot') ≡ threadAt l (place half' slot')
       go true e =
           let k : place half' slot' < place half slot = ltb-true (place half' slot') (place half slot) e in
           stored-before (place half slot) (place half' slot') h (omega arith)
@@ -48,11 +50,16 @@ module _ (l : List ℕ) (t : Thread) (s : Sized t) where
 
   module _ (half slot : ℕ) (fits : place half slot ≤ length l) where
     -- a list of slots that the stored one is not among
-    pub threads-elsewhere : (half' k n : ℕ) → ((i : ℕ) → k ≤ i → i < k + n → place half' i ≡ place half slot → ⊥) → threadsFrom half' k n (put l (place half slot) (wordsOf t)) ≡ threadsFrom half' k n l
+    pub threads-elsewhere : (half' k n : ℕ) → ((i : ℕ) → k ≤ i → i < k + n → place half' i ≡ place half slot → ⊥)
+        → threadsFrom half' k n (put l (place half slot) (wordsOf t)) ≡ threadsFrom half' k n l
     unfolding threadsFrom
     threads-elsewhere half' k zero ne = refl
     threads-elsewhere half' k (suc n) ne =
-        rw (stored-elsewhere half slot half' k fits (ne k (omega arith) (omega arith)), threads-elsewhere half' (suc k) n (λ i h g. ne i (omega arith) (omega arith)))
+        rw (
+          stored-elsewhere half slot half' k fits (ne k (omega arith) (omega arith)),
+          threads-elsewhere half' (suc k) n
+              (λ i h g. ne i (omega arith) (omega arith)),
+        )
 
     -- a list that the stored slot is among
     pub threads-stored : (k n m : ℕ) → slot ≡ k + m → m < n → threadsFrom half k n (put l (place half slot) (wordsOf t)) ≡ set (threadsFrom half k n l) m t
@@ -60,13 +67,15 @@ module _ (l : List ℕ) (t : Thread) (s : Sized t) where
     threads-stored k zero m e h = absurd (omega arith)
     threads-stored k (suc n) zero e h =
         let q : slot ≡ k = omega arith in
-        let here : threadAt (put l (place half slot) (wordsOf t)) (place half k) ≡ t = ap (λ i. threadAt (put l (place half slot) (wordsOf t)) (place half i)) (sym q) ∙ stored-here (place half slot) fits in
+        let here : threadAt (put l (place half slot) (wordsOf t)) (place half k) ≡ t =
+        ap (λ i. threadAt (put l (place half slot) (wordsOf t)) (place half i)) (sym q) ∙ stored-here (place half slot) fits in
         rw (here, threads-elsewhere half (suc k) n (λ i p g z. omega arith))
     threads-stored k (suc n) (suc m) e h =
         rw (stored-elsewhere half slot half k fits (λ z. omega arith), threads-stored (suc k) n m (omega arith) (omega arith))
 
 -- the first of the slots, and the rest
-pub threads-next : (half i count : ℕ) (l : List ℕ) → i < count → threadsFrom half i (count - i) l ≡ threadAt l (place half i) ∷ threadsFrom half (i + 1) (count - (i + 1)) l
+pub threads-next : (half i count : ℕ) (l : List ℕ) → i < count
+    → threadsFrom half i (count - i) l ≡ threadAt l (place half i) ∷ threadsFrom half (i + 1) (count - (i + 1)) l
 unfolding threadsFrom
 threads-next half i count l h =
     let e : count - i ≡ suc (count - (i + 1)) = omega arith in

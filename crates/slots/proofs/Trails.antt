@@ -10,10 +10,11 @@ use lib.Dec.{leb}
 use borrow.Author.Tests.{leb-true, leb-false}
 use lib.Seq.{take-all, take-suc-set}
 use Rattle.runs.specs.Run.{Entry}
-use Rattle.runs.specs.Order.{events, numbers, order, lex, then}
+use Rattle.runs.specs.Order.{events, numbers}
+use Rattle.runs.specs.inner.Order.{order, lex, then}
 use Rattle.slots.specs.declared.Thread.{Thread}
 use Rattle.slots.specs.declared.Side.{Side}
-use Rattle.slots.specs.Threads.{entryOf, trailOf, Sized, comesAfter, withStep, Extended, key, sideOf, greaterOf}
+use Rattle.slots.specs.inner.Threads.{entryOf, trailOf, Sized, comesAfter, withStep, Extended, key, sideOf, greaterOf}
 
 -- a trail has as many entries as steps were taken, 32 at most
 pub trail-length : (t : Thread) → Sized t → length (trailOf t) ≡ min (t .steps) 32
@@ -33,15 +34,15 @@ take-capped l n m e h = go (leb n 32) refl
         let q : 32 < n = leb-false n 32 p in
         take-all m l (omega arith) ∙ sym (take-all n l (omega arith))
 
-module _ (t : Thread) (s : Sized t) (m : ℕ) (h : m ≡ min (t .steps) 32) where
+module _ (t : Thread) (s : length (t .trail) ≡ 32) (m : ℕ) (h : m ≡ min (t .steps) 32) where
   -- the words' events and step numbers are the trail's
   trail-events : map (key false) (take m (t .trail)) ≡ events (trailOf t)
   unfolding trailOf
-  trail-events = ap (map (key false)) (take-capped (t .trail) (t .steps) m (s .trail-32) h) ∙ sym (map-map (λ (x : Entry). x .event) entryOf (take (t .steps) (t .trail)))
+  trail-events = ap (map (key false)) (take-capped (t .trail) (t .steps) m s h) ∙ sym (map-map (λ (x : Entry). x .event) entryOf (take (t .steps) (t .trail)))
 
   trail-numbers : map (key true) (take m (t .trail)) ≡ numbers (trailOf t)
   unfolding trailOf
-  trail-numbers = ap (map (key true)) (take-capped (t .trail) (t .steps) m (s .trail-32) h) ∙ sym (map-map (λ (x : Entry). x .step) entryOf (take (t .steps) (t .trail)))
+  trail-numbers = ap (map (key true)) (take-capped (t .trail) (t .steps) m s h) ∙ sym (map-map (λ (x : Entry). x .step) entryOf (take (t .steps) (t .trail)))
 
 greater-then : (o p : Ordering) → greaterOf (sideOf o) (sideOf p) ≡ comesAfter (then o p)
 greater-then Ordering·lt p = refl
@@ -51,7 +52,9 @@ greater-then Ordering·eq Ordering·eq = refl
 greater-then Ordering·eq Ordering·gt = refl
 
 -- first by the events, then by the step numbers: the order of the trails
-pub later-is : (a b : Thread) → Sized a → Sized b → (m n : ℕ) → m ≡ min (a .steps) 32 → n ≡ min (b .steps) 32 → (e f : Side) → e ≡ sideOf (lex (map (key false) (take m (a .trail))) (map (key false) (take n (b .trail)))) → f ≡ sideOf (lex (map (key true) (take m (a .trail))) (map (key true) (take n (b .trail)))) → greaterOf e f ≡ comesAfter (order (trailOf a) (trailOf b))
+pub later-is : (a b : Thread) → length (a .trail) ≡ 32 → length (b .trail) ≡ 32 → (m n : ℕ) → m ≡ min (a .steps) 32 → n ≡ min (b .steps) 32 → (e f : Side)
+    → e ≡ sideOf (lex (map (key false) (take m (a .trail))) (map (key false) (take n (b .trail))))
+    → f ≡ sideOf (lex (map (key true) (take m (a .trail))) (map (key true) (take n (b .trail)))) → greaterOf e f ≡ comesAfter (order (trailOf a) (trailOf b))
 unfolding order
 later-is a b s t m n h k e f p q =
     rw (p, q, trail-events a s m h, trail-events b t n k, trail-numbers a s m h, trail-numbers b t n k)

@@ -1,3 +1,2 @@
 -- Definitions of threads, and of the words that hold them.
-pub mod Threads
-pub mod Words
+pub mod inner

@@ -1,24 +1,41 @@
 // Threads kept in lent words: loading and storing a slot (the paper's seat), and inserting a thread into a list of them.
+use machine_code::Configuration;
 ghost use mathlib.Core.Path.{_≡_};
 ghost use mathlib.Core.Bool.{Bool·beq};
 ghost use mathlib.Core.List.{_++_, map};
 ghost use lib.Dec.{eqb};
 ghost use Prim.Native.Nat.{_+_, _*_, _^_, _≤_, _<_, min};
 ghost use lib.ListN.{length, getD, drop};
-ghost use Rattle.runs.specs.Order.{lex, order};
+ghost use Rattle.runs.specs.inner.Order.{lex, order};
 ghost use Rattle.base.specs.Lists.{sameList};
-ghost use Rattle.slots.specs.Threads.{trailOf, sameConfig, comesAfter, Extended, key, sideOf, greaterOf, position};
-ghost use Rattle.slots.specs.Words.{flag, bit, wordsOf, threadOf, threadAt, put, place, list, Inserted};
+ghost use Rattle.machine.specs.Configuration.{same};
+ghost use Rattle.machine.specs.Guard.{bit};
+ghost use Rattle.machine_code.specs.inner.Bytes.{configOf};
+ghost use Rattle.slots.specs.inner.Threads.{originThread, trailOf, comesAfter, Extended, key, sideOf, greaterOf, position};
+ghost use Rattle.slots.specs.inner.Words.{isSet, wordsOf, threadOf, threadAt, put, place, list, Inserted};
 
-// A configuration with its trail: 'a state, the held variables with values, and a counter per state', the number of steps taken and,
-// for each of them, event * 8 + step number.
+// A configuration with its trail: the number of steps taken and, for each of them, event * 8 + step number.
 pub struct Thread {
-    pub state: u32,
-    pub held: [bool; 8],
-    pub values: [u32; 8],
-    pub counters: [u32; 16],
+    pub config: Configuration,
     pub steps: u32,
     pub trail: [u32; 32],
+}
+
+// The thread before the first step: "The start configuration holds nothing, with counters 0".
+pub fn origin() -> Thread
+    ensures { λ r. ⌜ r ≡ originThread ⌝ }
+{
+    let config = Configuration {
+        state: 0,
+        held: [false; 8],
+        values: [0u32; 8],
+        counters: [0u32; 16],
+    };
+    Thread {
+        config,
+        steps: 0,
+        trail: [0u32; 32],
+    }
 }
 
 // How one list of numbers compares with another.
@@ -42,14 +59,14 @@ fn write(part: &mut [u32], at: usize, words: &[u32])
 
 // A flag as a word.
 fn flag_word(held: bool) -> u32
-    ensures { λ r. ⌜ r ≡ flag held ⌝ }
+    ensures { λ r. ⌜ r ≡ bit held ⌝ }
 {
     if held { 1 } else { 0 }
 }
 
 // Which variables are held, a word each.
 fn flag_words(held: [bool; 8]) -> [u32; 8]
-    ensures { λ r. ⌜ r ≡ map flag held ⌝ }
+    ensures { λ r. ⌜ r ≡ map bit held ⌝ }
 {
     let mut words = [0u32; 8];
     let mut i: usize = 0;
@@ -63,7 +80,7 @@ fn flag_words(held: [bool; 8]) -> [u32; 8]
 // Which variables are held, from a word each.
 fn flags_of(part: &[u32]) -> [bool; 8]
     requires { ⌜ length (now part) ≡ 8 ⌝ }
-    ensures { λ r. ⌜ r ≡ map bit (now (part .entry)) ⌝ }
+    ensures { λ r. ⌜ r ≡ map isSet (now (part .entry)) ⌝ }
 {
     let mut held = [false; 8];
     let mut i: usize = 0;
@@ -86,11 +103,14 @@ pub fn load(part: &[u32]) -> Thread
     write(&mut counters, 0, &part[17..33]);
     let mut trail = [0u32; 32];
     write(&mut trail, 0, &part[34..66]);
-    Thread {
+    let config = Configuration {
         state: part[0],
         held,
         values,
         counters,
+    };
+    Thread {
+        config,
         steps: part[33],
         trail,
     }
@@ -101,12 +121,13 @@ pub fn store(part: &mut [u32], t: Thread)
     requires { ⌜ 66 ≤ length (now part) ⌝ }
     ensures { λ _. ⌜ now (part .exit) ≡ wordsOf t ++ drop 66 (now (part .entry)) ⌝ }
 {
-    let held = t.held;
+    let c = t.config;
+    let held = c.held;
     let flags = flag_words(held);
-    let values = t.values;
-    let counters = t.counters;
+    let values = c.values;
+    let counters = c.counters;
     let trail = t.trail;
-    part[0] = t.state;
+    part[0] = c.state;
     write(part, 1, &flags);
     write(part, 9, &values);
     write(part, 17, &counters);
@@ -168,7 +189,7 @@ fn same_words(part: &[u32], words: &[u32]) -> bool
 
 // Whether a word says what a flag says.
 fn agrees(word: u32, held: bool) -> bool
-    ensures { λ r. ⌜ r ≡ Bool·beq (bit word) held ⌝ }
+    ensures { λ r. ⌜ r ≡ Bool·beq (isSet word) held ⌝ }
 {
     if held { word != 0 } else { word == 0 }
 }
@@ -176,7 +197,7 @@ fn agrees(word: u32, held: bool) -> bool
 // Whether a part's words hold the same variables.
 fn same_flags(part: &[u32], held: [bool; 8]) -> bool
     requires { ⌜ length (now part) ≡ 8 ⌝ }
-    ensures { λ r. ⌜ r ≡ sameList Bool·beq (map bit (now (part .entry))) held ⌝ }
+    ensures { λ r. ⌜ r ≡ sameList Bool·beq (map isSet (now (part .entry))) held ⌝ }
 {
     let mut i: usize = 0;
     while i < 8 {
@@ -189,23 +210,23 @@ fn same_flags(part: &[u32], held: [bool; 8]) -> bool
     true
 }
 
-// Whether a half's words hold a thread's configuration; the trails are not looked at.
-pub fn same_at(part: &[u32], b: Thread) -> bool
+// Whether a half's words hold a configuration; the trail is not looked at.
+fn same_at(part: &[u32], c: Configuration) -> bool
     requires { ⌜ 66 ≤ length (now part) ⌝ }
-    ensures { λ r. ⌜ r ≡ sameConfig (threadOf (now (part .entry))) b ⌝ }
+    ensures { λ r. ⌜ r ≡ same (configOf ((threadOf (now (part .entry))) .config)) (configOf c) ⌝ }
 {
-    if part[0] != b.state {
+    if part[0] != c.state {
         return false;
     }
-    let held = b.held;
+    let held = c.held;
     if !same_flags(&part[1..9], held) {
         return false;
     }
-    let values = b.values;
+    let values = c.values;
     if !same_words(&part[9..17], &values) {
         return false;
     }
-    let counters = b.counters;
+    let counters = c.counters;
     same_words(&part[17..33], &counters)
 }
 
@@ -289,16 +310,16 @@ pub fn with_step(t: Thread, event: u32, number: u32) -> Thread
     next
 }
 
-// The first of the threads with b's configuration; their count where there is none.
-fn find(work: &[u32], half: usize, count: usize, b: Thread) -> usize
+// The first of the threads with a configuration; their count where there is none.
+fn find(work: &[u32], half: usize, count: usize, c: Configuration) -> usize
     requires { ⌜ (count * 192 ≤ length (now work)) × (half < 2) ⌝ }
-    ensures { λ r. ⌜ r ≡ position b (list half count (now (work .entry))) ⌝ }
+    ensures { λ r. ⌜ r ≡ position c (list half count (now (work .entry))) ⌝ }
 {
     let mut i: usize = 0;
     while i < count {
         let a = offset(i, half);
         let e = a + 96;
-        if same_at(&work[a..e], b) {
+        if same_at(&work[a..e], c) {
             return i;
         }
         i += 1;
@@ -312,7 +333,8 @@ pub fn insert(work: &mut [u32], half: usize, count: usize, slots: usize, b: Thre
     requires { ⌜ (slots * 192 ≤ length (now work)) × (half < 2) × (count ≤ slots) ⌝ }
     ensures { λ r. ⌜ Inserted half count slots b (now (work .entry)) (now (work .exit)) r ⌝ }
 {
-    let at = find(&work[..], half, count, b);
+    let config = b.config;
+    let at = find(&work[..], half, count, config);
     if at < count {
         let a = load_slot(&work[..], at, half);
         if later(a, b) {

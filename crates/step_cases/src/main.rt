@@ -1,8 +1,10 @@
 // Runs one step of the semantics on the bench's executed cases, and prints a line for each: whether a step with time less than 600
 // is expired (the paper's hopeless) after 599, 600 and 601, on a rising and on a plain field; which events fire which steps of F;
 // and where the steps of a formula stand.
-use interpreter::Configuration;
+use event_log::Event;
+use event_log::Latest;
 use libc::STDOUT_FILENO;
+use machine_code::Configuration;
 
 // A word and a line's end.
 fn say(yes: bool) {
@@ -28,7 +30,10 @@ fn show_expired(rising: bool, time: u32) {
     let rises = [rising, false, false, false, false, false, false, false];
     io::write_all(STDOUT_FILENO, b"expired after ");
     io::print_decimal(STDOUT_FILENO, time as u64);
-    say(interpreter::expiring::expired(&f, 2, start(), rises, [time, 0, 0, 0, 0, 0, 0, 0]));
+    let latest = Latest {
+        values: [time, 0, 0, 0, 0, 0, 0, 0],
+    };
+    say(machine_code::expiring::expired(&f, 2, start(), rises, latest));
 }
 
 // Whether the STEP at an offset of F fires on an event, from its state with variable 0 as held.
@@ -46,7 +51,10 @@ fn show_fires(at: usize, state: u32, held: bool, time: u32, code: u32) {
     }
     io::write_all(STDOUT_FILENO, b"fires at ");
     io::print_decimal(STDOUT_FILENO, at as u64);
-    let fired = interpreter::firing::fire(f, at, c, [time, code, 0, 0, 0, 0, 0, 0]);
+    let event = Event {
+        values: [time, code, 0, 0, 0, 0, 0, 0],
+    };
+    let fired = machine_code::firing::fire(f, at, c, event);
     say(fired.fires);
 }
 
@@ -63,7 +71,7 @@ fn show_place(s: u32, k: usize) {
     io::write_all(STDOUT_FILENO, b" at ");
     io::print_decimal(
         STDOUT_FILENO,
-        interpreter::steps::step_offset(&table, s, k) as u64,
+        machine_code::steps::step_offset(&table, s, k) as u64,
     );
     io::write_all(STDOUT_FILENO, b"\n");
 }

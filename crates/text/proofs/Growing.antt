@@ -6,7 +6,7 @@ use native.Mathlib.Numerals.{add-one}
 use native.Mathlib.Omega.{arith}
 use lib.ListN.{length, getD, take, set}
 use lib.Seq.{take-suc-set, take-suc, take-all, length-take-le}
-use Rattle.text.specs.Adds.{Adds, Written}
+use Rattle.text.specs.inner.Adds.{Adds, Written}
 
 -- nothing is added; one byte
 pub nothing : (before : List ℕ) (at : ℕ) → Adds 0 before at before at []

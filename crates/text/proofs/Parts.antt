@@ -11,7 +11,7 @@ use lib.Dec.{eqb, ltb}
 use borrow.Author.Tests.{lt-ltb, le-ltb, eq-eqb, ne-eqb}
 use Rattle.refusal.specs.declared.Report.{Report}
 use Rattle.text.specs.Text.{ascii, digits, decimal, word, spaced, variable, each, held, variables, details, line, refusedLine}
-use Rattle.text.specs.Adds.{Adds}
+use Rattle.text.specs.inner.Adds.{Adds}
 use Rattle.text.proofs.Growing.{nothing, behind, same-text}
 
 -- digits: none in no place; a number below 10 is its digit; a greater one has its last digit behind the others

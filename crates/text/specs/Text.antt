@@ -9,6 +9,7 @@ use lib.ListN.{length, getD, take, drop, replicate}
 use lib.Dec.{eqb, ltb}
 use Rattle.refusal.specs.declared.Report.{Report}
 use Rattle.refusal.specs.Refusals.{reportOf}
+use Rattle.event_log.specs.File.{logOf}
 use Rattle.event_log.specs.Read.{Reading, accepted, refused, readLog}
 use Rattle.analysis.specs.declared.Outcome.{Outcome}
 use Rattle.analysis.specs.declared.Outcome.the-variants.{Done, Refused}
@@ -80,7 +81,7 @@ textOf events (Refused r) rows = refusedLine (reportOf r)
 
 -- the number of events of a log that is accepted
 abbrev pub eventsIn : Reading → ℕ
-eventsIn (accepted g) = length (g .events)
+eventsIn (accepted t) = length ((logOf t) .events)
 eventsIn (refused r) = 0
 
 -- What the program prints for two files: it "lends 64 seats", and 12 row words for each of the 1,024 events that a log may have.

@@ -9,7 +9,7 @@ ghost use Prim.Native.Nat.{_+_, _≤_, _<_, _^_};
 ghost use lib.ListN.{length};
 ghost use Rattle.refusal.specs.Refusals.{reportOf};
 ghost use Rattle.text.specs.Text as Text;
-ghost use Rattle.text.specs.Adds.{Adds, Written};
+ghost use Rattle.text.specs.inner.Adds.{Adds, Written};
 
 // Adds one byte.
 fn push(byte: u8, out: &mut [u8], at: usize) -> usize

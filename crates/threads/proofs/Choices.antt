@@ -7,43 +7,44 @@ use native.Mathlib.Omega.{arith}
 use lib.Dec.{ltb}
 use Rattle.event_log.specs.Log.{Log}
 use Rattle.formula.specs.Formula.{Formula}
-use Rattle.runs.specs.Search as Runs
+use Rattle.runs.specs.inner.Search as Runs
 use Rattle.runs.proofs.Moves.{firing-quiet}
 use Rattle.runs.proofs.Growth.{firing-fires, moves-ordinary, moves-quiet, moves-lowest, leaves}
 use Rattle.machine.specs.Machine.{machine, fireAt, committed}
 use Rattle.machine.specs.Configuration.{Config}
+use Rattle.machine_code.specs.inner.Bytes.{configOf}
 use Rattle.slots.specs.declared.Thread.{Thread}
-use Rattle.slots.specs.Threads.{trailOf}
-use Rattle.threads.specs.Setting.{Fit, conf, thread}
-use Rattle.interpreter.proofs.CodeMachine as Code
-use Rattle.interpreter.proofs.CodeMachine.{isFired}
-use Rattle.threads.specs.Calls.{Fires, Lowest, Chosen}
+use Rattle.slots.specs.inner.Threads.{trailOf}
+use Rattle.threads.specs.inner.Setting.{Fit, thread}
+use Rattle.machine_code.proofs.SameMachine as Code
+use Rattle.machine_code.proofs.SameMachine.{isFired}
+use Rattle.threads.specs.inner.Calls.{Fires, Lowest, Chosen}
 use Rattle.threads.proofs.Steps.{begun-steps}
 
 module _ (g : Log) (fm : Formula) (t : Thread) (n : ℕ) where
   -- ---- the lowest step that fires
 
-  silent : (k : ℕ) → isFired (fireAt g fm (conf t) n k) ≡ false → fireAt g fm (conf t) n k ≡ none
-  silent k e = by (fireAt g fm (conf t) n k) e
+  silent : (k : ℕ) → isFired (fireAt g fm (configOf (t .config)) n k) ≡ false → fireAt g fm (configOf (t .config)) n k ≡ none
+  silent k e = by (fireAt g fm (configOf (t .config)) n k) e
     where
       by : (o : Option Config) → isFired o ≡ false → o ≡ none
       by none q = refl
       by (some d) q = absurd (true≢false q)
 
-  firing : (k : ℕ) → isFired (fireAt g fm (conf t) n k) ≡ true → Fires g fm (conf t) n k
-  firing k e = by (fireAt g fm (conf t) n k) refl e
+  firing : (k : ℕ) → isFired (fireAt g fm (configOf (t .config)) n k) ≡ true → Fires g fm (configOf (t .config)) n k
+  firing k e = by (fireAt g fm (configOf (t .config)) n k) refl e
     where
-      by : (o : Option Config) → fireAt g fm (conf t) n k ≡ o → isFired o ≡ true → Fires g fm (conf t) n k
+      by : (o : Option Config) → fireAt g fm (configOf (t .config)) n k ≡ o → isFired o ≡ true → Fires g fm (configOf (t .config)) n k
       by none q x = absurd (false≢true x)
       by (some d) q x = record { left = d; is = q }
 
-  pub lowest-found : (k : ℕ) → Code.Lowest (λ j. isFired (fireAt g fm (conf t) n j)) k → Lowest g fm (conf t) n k
+  pub lowest-found : (k : ℕ) → Code.Lowest (λ j. isFired (fireAt g fm (configOf (t .config)) n j)) k → Lowest g fm (configOf (t .config)) n k
   lowest-found k low = record { quiet = λ j l. silent j (low .before j l); fires = λ l. firing k (low .here l) }
 
   -- ---- what may be taken
 
   module _ (h : Fit fm t) where
-    pub ordinary-choice : committed fm (conf t) ≡ false → Chosen g fm t n (record { from = 0; to = 8; stays = ltb 0 (t .steps) })
+    pub ordinary-choice : committed fm (configOf (t .config)) ≡ false → Chosen g fm t n (record { from = 0; to = 8; stays = ltb 0 (t .steps) })
     unfolding Runs.stays
     ordinary-choice e =
         record {
@@ -53,23 +54,27 @@ module _ (g : Log) (fm : Formula) (t : Thread) (n : ℕ) where
               ∙ ap (λ b. Runs.begun (trailOf t) && Runs.passes (machine g fm) b (Runs.firing (machine g fm) (thread g fm t) n 0 8)) (sym e);
         }
 
-    pub quiet-choice : committed fm (conf t) ≡ true → Lowest g fm (conf t) n 8 → Chosen g fm t n (record { from = 8; to = 8; stays = ltb 0 (t .steps) })
+    pub quiet-choice : committed fm (configOf (t .config)) ≡ true → Lowest g fm (configOf (t .config)) n 8
+        → Chosen g fm t n (record { from = 8; to = 8; stays = ltb 0 (t .steps) })
     unfolding Runs.stays Runs.firing
     quiet-choice e low =
         record {
           moves-are = moves-quiet (machine g fm) n (thread g fm t) (low .quiet);
           stays-is =
               begun-steps fm t h ∙ sym (and-true (Runs.begun (trailOf t)))
-              ∙ ap (λ l. Runs.begun (trailOf t) && Runs.passes (machine g fm) true l) (sym (firing-quiet (machine g fm) (thread g fm t) n 0 8 (λ j p l. low .quiet j l)))
+              ∙ ap (λ l. Runs.begun (trailOf t) && Runs.passes (machine g fm) true l)
+              (sym (firing-quiet (machine g fm) (thread g fm t) n 0 8 (λ j p l. low .quiet j l)))
               ∙ ap (λ b. Runs.begun (trailOf t) && Runs.passes (machine g fm) b (Runs.firing (machine g fm) (thread g fm t) n 0 8)) (sym e);
         }
 
-    pub lowest-choice : (k : ℕ) → committed fm (conf t) ≡ true → k < 8 → Lowest g fm (conf t) n k → Chosen g fm t n (record { from = k; to = k + 1; stays = false })
+    pub lowest-choice : (k : ℕ) → committed fm (configOf (t .config)) ≡ true → k < 8 → Lowest g fm (configOf (t .config)) n k
+        → Chosen g fm t n (record { from = k; to = k + 1; stays = false })
     unfolding Runs.firing
     lowest-choice k e l low =
         let x = low .fires l in
         let one : k + 1 - k ≡ 1 = omega arith in
         record {
-          moves-are = moves-lowest (machine g fm) n (thread g fm t) k (x .left) e l (x .is) (low .quiet) ∙ sym (firing-fires (machine g fm) (thread g fm t) n k (k + 1 - k) 0 (x .left) one (x .is));
+          moves-are = moves-lowest (machine g fm) n (thread g fm t) k (x .left) e l (x .is) (low .quiet)
+              ∙ sym (firing-fires (machine g fm) (thread g fm t) n k (k + 1 - k) 0 (x .left) one (x .is));
           stays-is = sym (leaves (machine g fm) n (thread g fm t) k (x .left) e l (x .is) (low .quiet));
         }

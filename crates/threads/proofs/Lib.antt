@@ -8,5 +8,6 @@ pub mod Steps
 pub mod Firing
 pub mod Choices
 pub mod Listed
+pub mod Inserting
 pub mod Endings
 pub mod Waiting

@@ -8,13 +8,13 @@ use lib.Seq.{drop-cons}
 use Rattle.base.proofs.Lists.{All-at}
 use Rattle.event_log.specs.Log.{Log}
 use Rattle.formula.specs.Formula.{Formula}
-use Rattle.runs.specs.Search as Runs
+use Rattle.runs.specs.inner.Search as Runs
 use Rattle.machine.specs.Machine.{machine}
 use Rattle.slots.specs.declared.Thread.{Thread}
-use Rattle.slots.specs.Words.{threadAt, place, list}
-use Rattle.threads.specs.Setting.{Fit, thread}
-use Rattle.threads.specs.Event.{waitingIn, Kept}
-use Rattle.threads.specs.Calls.{Going, Grown}
+use Rattle.slots.specs.inner.Words.{threadAt, place, list}
+use Rattle.threads.specs.inner.Setting.{Fit, thread}
+use Rattle.threads.specs.inner.Event.{waitingIn, Kept}
+use Rattle.threads.specs.inner.Calls.{Going, Grown}
 use Rattle.slots.proofs.Slots.{threads-length, thread-at}
 
 -- a kept list's thread has room for one step more
@@ -28,7 +28,8 @@ kept-at fm half count l j t k h e =
     }
 
 -- the list of one half stays while the other is filled: so does each of its threads
-pub thread-stays : (half slots count : ℕ) (before after : List ℕ) (r j : ℕ) (t : Thread) → half < 2 → count ≤ slots → Grown (1 - half) slots before after r → j < count → t ≡ threadAt after (place half j) → t ≡ threadAt before (place half j)
+pub thread-stays : (half slots count : ℕ) (before after : List ℕ) (r j : ℕ) (t : Thread) → half < 2 → count ≤ slots → Grown (1 - half) slots before after r
+    → j < count → t ≡ threadAt after (place half j) → t ≡ threadAt before (place half j)
 thread-stays half slots count before after r j t two most w h e =
     let back : 1 - (1 - half) ≡ half = omega arith in
     let q : list half count after ≡ list half count before = subst (λ i. list i count after ≡ list i count before) back (w .other count most) in
@@ -39,7 +40,8 @@ module _ (g : Log) (fm : Formula) (half count : ℕ) (l : List ℕ) (j : ℕ) (t
   pub waiting-next : drop j (waitingIn g fm half count l) ≡ thread g fm t ∷ drop (j + 1) (waitingIn g fm half count l)
   waiting-next =
       let n : j < length (waitingIn g fm half count l) = omega (arith, length-map (list half count l) (thread g fm), threads-length half 0 count l) in
-      let q : getD (waitingIn g fm half count l) j (thread g fm t) ≡ thread g fm t = List·getD-map (thread g fm) (list half count l) j t ∙ ap (thread g fm) (thread-at half 0 count l j j t (omega arith) h ∙ sym e) in
+      let q : getD (waitingIn g fm half count l) j (thread g fm t) ≡ thread g fm t = List·getD-map (thread g fm) (list half count l) j t
+      ∙ ap (thread g fm) (thread-at half 0 count l j j t (omega arith) h ∙ sym e) in
       let one : suc j ≡ j + 1 = omega arith in
       drop-cons (waitingIn g fm half count l) j (thread g fm t) n
       ∙ ap (λ (x : Runs.Thread (machine g fm)). x ∷ drop (suc j) (waitingIn g fm half count l)) q

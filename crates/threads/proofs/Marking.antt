@@ -8,61 +8,74 @@ use borrow.Author.Tests.{eqb-true, eqb-false}
 use lib.Dec.{eqb}
 use lib.ListN.{length, getD, set, length-set}
 use lib.Seq.{getD-set-same, getD-set-other}
-use Rattle.interpreter.specs.declared.Configuration.{Configuration}
-use Rattle.interpreter.specs.Bytes.{fired, lapsed}
-use Rattle.threads.specs.Setting.{EventTable, Firing, stands, barred, Lasting, lasts, due, Wide}
+use Rattle.machine_code.specs.declared.Configuration.{Configuration}
+use Rattle.machine_code.specs.inner.Bytes.{fired, lapsed}
+use Rattle.threads.specs.declared.Moment.{Moment}
+use Rattle.threads.specs.inner.Setting.{EventTable, Firing, stands, barred, Lasting, lasts, due, Wide}
 
-module _ (f steps : List ℕ) (up : List Bool) (event table : List ℕ) where
+module _ (f steps : List ℕ) (rises : List Bool) (m : Moment) (table : List ℕ) where
   -- the table before the event says anything
-  pub wide-table : Wide steps table → EventTable f table up event table
+  pub wide-table : Wide steps table → EventTable f table rises m table
   wide-table w = record { sized = w .sized; fires = λ i h. stands refl; lapses = λ i h. lasts (w .second i h ∙ sym (w .first i h)) }
 
   -- and its first half has the steps
-  pub wide-steps : Wide steps table → (entries : List ℕ) → EventTable f table up event entries → EventTable f steps up event entries
+  pub wide-steps : Wide steps table → (entries : List ℕ) → EventTable f table rises m entries → EventTable f steps rises m entries
   wide-steps w entries e =
       record {
         sized = e .sized;
-        fires = λ i h. subst (λ x. Firing f event x (getD entries i 0)) (w .first i h) (e .fires i h);
-        lapses = λ i h. subst (λ x. Lasting f up event x (getD entries (128 + i) 0)) (w .first i h) (e .lapses i h);
+        fires = λ i h. subst (λ x. Firing f (m .event .values) x (getD entries i 0)) (w .first i h) (e .fires i h);
+        lapses = λ i h. subst (λ x. Lasting f rises (m .latest .values) x (getD entries (128 + i) 0)) (w .first i h) (e .lapses i h);
       }
 
-  module _ (i : ℕ) (h : i < 128) (e : EventTable f steps up event table) where
-    pub barred-more : (b : Bool) → (b ≡ true → (c : Configuration) → (fired f (getD steps i 0) c event) .fires ≡ false) → EventTable f steps up event (set table i (cond b 0 (getD table i 0)))
+  module _ (i : ℕ) (h : i < 128) (e : EventTable f steps rises m table) where
+    pub barred-more : (b : Bool) → (b ≡ true → (c : Configuration) → (fired f (getD steps i 0) c (m .event .values)) .fires ≡ false)
+        → EventTable f steps rises m (set table i (cond b 0 (getD table i 0)))
     barred-more b q =
         record {
           sized = length-set table i (cond b 0 (getD table i 0)) ∙ e .sized;
           fires = λ j l. by j l (eqb j i) refl;
-          lapses = λ j l. subst (Lasting f up event (getD steps j 0)) (sym (getD-set-other table i (128 + j) (cond b 0 (getD table i 0)) 0 (λ z. omega (arith, z)))) (e .lapses j l);
+          lapses = λ j l. subst (Lasting f rises (m .latest .values) (getD steps j 0))
+              (sym (getD-set-other table i (128 + j) (cond b 0 (getD table i 0)) 0 (λ z. omega (arith, z)))) (e .lapses j l);
         }
       where
-        here : (z : Bool) → (z ≡ true → (c : Configuration) → (fired f (getD steps i 0) c event) .fires ≡ false) → Firing f event (getD steps i 0) (cond z 0 (getD table i 0))
+        here : (z : Bool) → (z ≡ true → (c : Configuration) → (fired f (getD steps i 0) c (m .event .values)) .fires ≡ false)
+            → Firing f (m .event .values) (getD steps i 0) (cond z 0 (getD table i 0))
         here true r = barred refl (r refl)
         here false r = e .fires i h
 
-        by : (j : ℕ) → j < 128 → (z : Bool) → eqb j i ≡ z → Firing f event (getD steps j 0) (getD (set table i (cond b 0 (getD table i 0))) j 0)
+        by : (j : ℕ) → j < 128 → (z : Bool) → eqb j i ≡ z → Firing f (m .event .values) (getD steps j 0) (getD (set table i (cond b 0 (getD table i 0))) j 0)
         by j l true z =
-            subst (λ k. Firing f event (getD steps k 0) (getD (set table i (cond b 0 (getD table i 0))) k 0)) (sym (eqb-true j i z))
-            (subst (Firing f event (getD steps i 0)) (sym (getD-set-same table i (cond b 0 (getD table i 0)) 0 (omega (arith, e .sized)))) (here b q))
-        by j l false z = subst (Firing f event (getD steps j 0)) (sym (getD-set-other table i j (cond b 0 (getD table i 0)) 0 (eqb-false j i z))) (e .fires j l)
+            subst (λ k. Firing f (m .event .values) (getD steps k 0) (getD (set table i (cond b 0 (getD table i 0))) k 0)) (sym (eqb-true j i z))
+            (subst (Firing f (m .event .values) (getD steps i 0)) (sym (getD-set-same table i (cond b 0 (getD table i 0)) 0 (omega (arith, e .sized))))
+            (here b q))
+        by j l false z = subst (Firing f (m .event .values) (getD steps j 0)) (sym (getD-set-other table i j (cond b 0 (getD table i 0)) 0 (eqb-false j i z)))
+            (e .fires j l)
 
-    pub due-more : (b : Bool) → (b ≡ true → (c : Configuration) → lapsed f (getD steps i 0) c up event ≡ true) → EventTable f steps up event (set table (128 + i) (cond b 0 (getD table (128 + i) 0)))
+    pub due-more : (b : Bool) → (b ≡ true → (c : Configuration) → lapsed f (getD steps i 0) c rises (m .latest .values) ≡ true)
+        → EventTable f steps rises m (set table (128 + i) (cond b 0 (getD table (128 + i) 0)))
     due-more b q =
         record {
           sized = length-set table (128 + i) (cond b 0 (getD table (128 + i) 0)) ∙ e .sized;
-          fires = λ j l. subst (Firing f event (getD steps j 0)) (sym (getD-set-other table (128 + i) j (cond b 0 (getD table (128 + i) 0)) 0 (λ z. omega (arith, z)))) (e .fires j l);
+          fires = λ j l. subst (Firing f (m .event .values) (getD steps j 0))
+              (sym (getD-set-other table (128 + i) j (cond b 0 (getD table (128 + i) 0)) 0 (λ z. omega (arith, z)))) (e .fires j l);
           lapses = λ j l. by j l (eqb j i) refl;
         }
       where
-        here : (z : Bool) → (z ≡ true → (c : Configuration) → lapsed f (getD steps i 0) c up event ≡ true) → Lasting f up event (getD steps i 0) (cond z 0 (getD table (128 + i) 0))
+        here : (z : Bool) → (z ≡ true → (c : Configuration) → lapsed f (getD steps i 0) c rises (m .latest .values) ≡ true)
+            → Lasting f rises (m .latest .values) (getD steps i 0) (cond z 0 (getD table (128 + i) 0))
         here true r = due refl (r refl)
         here false r = e .lapses i h
 
-        by : (j : ℕ) → j < 128 → (z : Bool) → eqb j i ≡ z → Lasting f up event (getD steps j 0) (getD (set table (128 + i) (cond b 0 (getD table (128 + i) 0))) (128 + j) 0)
+        by : (j : ℕ) → j < 128 → (z : Bool) → eqb j i ≡ z
+            → Lasting f rises (m .latest .values) (getD steps j 0) (getD (set table (128 + i) (cond b 0 (getD table (128 + i) 0))) (128 + j) 0)
         by j l true z =
-            subst (λ k. Lasting f up event (getD steps k 0) (getD (set table (128 + i) (cond b 0 (getD table (128 + i) 0))) (128 + k) 0)) (sym (eqb-true j i z))
-            (subst (Lasting f up event (getD steps i 0)) (sym (getD-set-same table (128 + i) (cond b 0 (getD table (128 + i) 0)) 0 (omega (arith, e .sized)))) (here b q))
+            subst (λ k. Lasting f rises (m .latest .values) (getD steps k 0) (getD (set table (128 + i) (cond b 0 (getD table (128 + i) 0))) (128 + k) 0))
+            (sym (eqb-true j i z))
+            (subst (Lasting f rises (m .latest .values) (getD steps i 0))
+            (sym (getD-set-same table (128 + i) (cond b 0 (getD table (128 + i) 0)) 0 (omega (arith, e .sized)))) (here b q))
         by j l false z =
-            subst (Lasting f up event (getD steps j 0)) (sym (getD-set-other table (128 + i) (128 + j) (cond b 0 (getD table (128 + i) 0)) 0 (λ y. eqb-false j i z (omega (arith, y))))) (e .lapses j l)
+            subst (Lasting f rises (m .latest .values) (getD steps j 0))
+            (sym (getD-set-other table (128 + i) (128 + j) (cond b 0 (getD table (128 + i) 0)) 0 (λ y. eqb-false j i z (omega (arith, y))))) (e .lapses j l)
 
 -- one entry more of both halves is copied
 pub record Copied (steps table : List ℕ) (n : ℕ) : Type 0 where
@@ -71,7 +84,8 @@ pub record Copied (steps table : List ℕ) (n : ℕ) : Type 0 where
   pub first : (i : ℕ) → i < n → getD table i 0 ≡ getD steps i 0
   pub second : (i : ℕ) → i < n → getD table (128 + i) 0 ≡ getD steps i 0
 
-pub copied-next : (steps table : List ℕ) (n at : ℕ) → n < 128 → at ≡ getD steps n 0 → Copied steps table n → Copied steps (set (set table n at) (128 + n) at) (n + 1)
+pub copied-next : (steps table : List ℕ) (n at : ℕ) → n < 128 → at ≡ getD steps n 0 → Copied steps table n
+    → Copied steps (set (set table n at) (128 + n) at) (n + 1)
 copied-next steps table n at h e c =
     record {
       sized = length-set (set table n at) (128 + n) at ∙ length-set table n at ∙ c .sized;

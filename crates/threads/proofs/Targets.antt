@@ -1,7 +1,6 @@
 -- Where a step that fires leads is told by the byte behind its command: whether a run ends by it.
 use Prim.Native.Nat.{ℕ, _+_, _<_}
 use mathlib.Core.Path.{_≡_, ap, sym, subst, _∙_}
-use mathlib.Core.Bool.{Bool}
 use mathlib.Core.List.{List}
 use mathlib.Core.Option.{some}
 use lib.Dec.{leb}
@@ -15,26 +14,30 @@ use Rattle.machine.specs.Firing.{leave}
 use Rattle.machine.specs.Machine.{fireAt, final}
 use Rattle.machine.proofs.Machine.{FiredAt, fire-at-some}
 use Rattle.slots.specs.declared.Thread.{Thread}
-use Rattle.interpreter.specs.Bytes.{offsetOf}
-use Rattle.interpreter.proofs.CodeFiring.{StepAt, inside, target-byte}
-use Rattle.interpreter.proofs.CodeMachine.{StepThere}
-use Rattle.threads.specs.Setting.{Scene, Loads, Fit, conf}
+use Rattle.machine_code.specs.inner.Bytes.{configOf, offsetOf}
+use Rattle.machine_code.proofs.FiringOnBytes.{StepAt, inside, target-byte}
+use Rattle.machine_code.proofs.SameMachine.{StepThere}
+use Rattle.threads.specs.declared.Rules.{Rules}
+use Rattle.threads.specs.declared.Moment.{Moment}
+use Rattle.threads.specs.inner.Setting.{Scene, Fit}
 use Rattle.threads.proofs.Charts.{charted}
 use Rattle.threads.proofs.Tables.{fires-stands}
 use Rattle.threads.proofs.Words.{final-at}
 
-module _ (g : Log) (fm : Formula) (f table kinds : List ℕ) (up : List Bool) (event : List ℕ) (s : Scene g fm f table kinds up event) (n : ℕ) (l : Loads g n event) (t : Thread) (w : Fit fm t) (k : ℕ) (h : k < 8) (d : Config) (e : fireAt g fm (conf t) n k ≡ some d) where
-  found : FiredAt g fm (conf t) n k d
-  found = fire-at-some g fm (conf t) d n k e
+module _ (g : Log) (fm : Formula) (f table : List ℕ) (rules : Rules) (m : Moment) (s : Scene g fm f table rules m) (t : Thread) (w : Fit fm t) (k : ℕ)
+    (h : k < 8) (d : Config) (e : fireAt g fm (configOf (t .config)) (m .number) k ≡ some d) where
+  found : FiredAt g fm (configOf (t .config)) (m .number) k d
+  found = fire-at-some g fm (configOf (t .config)) d (m .number) k e
 
   -- the step's bytes stand at the table's offset
-  stands : StepAt (length (g .fields)) (length (fm .states)) f (offsetOf table (t .state) k) (found .step)
+  stands : StepAt (length (g .fields)) (length (fm .states)) f (offsetOf table (t .config .state) k) (found .step)
   stands =
-      subst (λ (at : ℕ). StepAt (length (g .fields)) (length (fm .states)) f at (found .step)) (sym (fires-stands g fm f table kinds up event s n l t w k h d e))
-      (subst (StepThere (length (g .fields)) (length (fm .states)) f (offsetOf (stepTable fm) (t .state) k)) (found .found) (charted g fm f (stepTable fm) kinds up (s .setting) .stands (t .state) k h) .1)
+      subst (λ (at : ℕ). StepAt (length (g .fields)) (length (fm .states)) f at (found .step)) (sym (fires-stands g fm f table rules m s t w k h d e))
+      (subst (StepThere (length (g .fields)) (length (fm .states)) f (offsetOf (stepTable fm) (t .config .state) k)) (found .found)
+      (charted g fm f (stepTable fm) rules (s .setting) .stands (t .config .state) k h) .1)
 
-  pub target-inside : offsetOf table (t .state) k < length f
-  target-inside = inside (length (g .fields)) (length (fm .states)) f (offsetOf table (t .state) k) (found .step) stands
+  pub target-inside : offsetOf table (t .config .state) k < length f
+  target-inside = inside (length (g .fields)) (length (fm .states)) f (offsetOf table (t .config .state) k) (found .step) stands
 
   target-left : d .state ≡ found .step .target
   unfolding leave
@@ -44,7 +47,8 @@ module _ (g : Log) (fm : Formula) (f table kinds : List ℕ) (up : List Bool) (e
   unfolding stepCommands
   target-declared = stands .exist .0
 
-  pub target-final : leb 2 (getD kinds (getD f (offsetOf table (t .state) k + 1) 0) 0) ≡ final fm d
+  pub target-final : leb 2 (getD (rules .kinds) (getD f (offsetOf table (t .config .state) k + 1) 0) 0) ≡ final fm d
   target-final =
-      ap (λ i. leb 2 (getD kinds i 0)) (target-byte (length (g .fields)) (length (fm .states)) f (offsetOf table (t .state) k) (found .step) stands ∙ sym target-left)
-      ∙ final-at g fm f (stepTable fm) kinds up (s .setting) d (subst (λ i. i < length (fm .states)) (sym target-left) target-declared)
+      ap (λ i. leb 2 (getD (rules .kinds) i 0))
+      (target-byte (length (g .fields)) (length (fm .states)) f (offsetOf table (t .config .state) k) (found .step) stands ∙ sym target-left)
+      ∙ final-at g fm f (stepTable fm) rules (s .setting) d (subst (λ i. i < length (fm .states)) (sym target-left) target-declared)

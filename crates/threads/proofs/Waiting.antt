@@ -12,41 +12,33 @@ use borrow.Author.Tests.{le-leb, lt-leb, leb-true, leb-false}
 use Rattle.base.specs.Lists.{All}
 use Rattle.event_log.specs.Log.{Log}
 use Rattle.formula.specs.Formula.{Formula}
-use Rattle.runs.specs.Lists.{only, keep, gather}
-use Rattle.runs.specs.Search as Runs
-use Rattle.runs.specs.Threads.{insert, insertWithin, candidates}
+use Rattle.runs.specs.inner.Lists.{only, keep, gather}
+use Rattle.runs.specs.inner.Search as Runs
+use Rattle.runs.specs.inner.Threads.{insert, insertWithin, candidates}
 use Rattle.runs.proofs.Growth.{keep-append, candidates-cons}
-use Rattle.runs.proofs.Inserting.{chain, within-append, within-over, within-fits}
-use Rattle.runs.specs.Order.{order}
+use Rattle.runs.proofs.OneByOne.{chain, within-append, within-over, within-fits}
+use Rattle.runs.specs.inner.Order.{order}
 use Rattle.machine.specs.Configuration.{Config, same}
 use Rattle.machine.specs.Machine.{machine, fireAt, final}
+use Rattle.machine_code.specs.inner.Bytes.{configOf}
 use Rattle.slots.specs.declared.Thread.{Thread}
-use Rattle.slots.specs.Threads.{trailOf, sameConfig, comesAfter, replaced, lesserThread, placed, insertThread}
-use Rattle.slots.specs.Words.{threadAt, place, list, Inserted}
+use Rattle.slots.specs.inner.Threads.{trailOf, comesAfter, replaced, lesserThread, placed, insertThread}
+use Rattle.slots.specs.inner.Words.{threadAt, place, list, Inserted}
 use Rattle.threads.specs.declared.Move.{Move}
 use Rattle.threads.specs.declared.Choice.{Choice}
-use Rattle.threads.specs.Setting.{Fit, conf, thread}
-use Rattle.threads.specs.Event.{waitingIn, Kept}
-use Rattle.threads.specs.Calls.{Going, MovedBy, Chosen, moveBy, Grown, Within, offered}
+use Rattle.threads.specs.inner.Setting.{Fit, thread}
+use Rattle.threads.specs.inner.Event.{waitingIn, Kept}
+use Rattle.threads.specs.inner.Calls.{Going, MovedBy, Chosen, moveBy, Grown, Within, offered}
 use Rattle.threads.proofs.Firing.{firing-next}
-use Rattle.slots.proofs.Runs.{insert-in-all}
+use Rattle.threads.proofs.Inserting.{insert-is}
 use Rattle.threads.proofs.Steps.{trail-length}
 use Rattle.threads.proofs.Listed.{waiting-next, waiting-done}
-
--- ---- the structs' threads are the machine's
-
-same-config : (a b : Thread) → same (conf a) (conf b) ≡ sameConfig a b
-unfolding same sameConfig
-same-config a b = refl
-
-insert-is : (g : Log) (fm : Formula) (b : Thread) (ths : List Thread) → map (thread g fm) (insertThread b ths) ≡ insert (machine g fm) (thread g fm b) (map (thread g fm) ths)
-insert-is g fm b ths = insert-in-all (machine g fm) conf same-config b ths
 
 -- what holds of b and of every thread of a list holds after inserting b
 insert-all : (P : Thread → Type 0) (b : Thread) (ths : List Thread) → P b → All P ths → All P (insertThread b ths)
 unfolding insertThread lesserThread
 insert-all P b [] p h = (p, tt)
-insert-all P b (a ∷ ths) p h = by (sameConfig a b) (insert-all P b ths p (h .1))
+insert-all P b (a ∷ ths) p h = by (same (configOf (a .config)) (configOf (b .config))) (insert-all P b ths p (h .1))
   where
     one : (c : Bool) → P (replaced c a b)
     one true = p
@@ -64,34 +56,38 @@ insert-all P b (a ∷ ths) p h = by (sameConfig a b) (insert-all P b ths p (h .1
 pub grown-same : (half slots count : ℕ) (l : List ℕ) → count ≤ slots → Grown half slots l l count
 grown-same half slots count l h = record { most = omega arith; other = λ m k. refl; sized = refl }
 
-pub grown-insert : (half count slots : ℕ) (b : Thread) (before after : List ℕ) (r : ℕ) → half < 2 → count ≤ slots → Inserted half count slots b before after r → Grown half slots before after r
-grown-insert half count slots b before after r two h i = record { most = omega (arith, i .most); other = λ m k. i .other (1 - half) 0 m (omega arith); sized = i .sized }
+pub grown-insert : (half count slots : ℕ) (b : Thread) (before after : List ℕ) (r : ℕ) → half < 2 → count ≤ slots → Inserted half count slots b before after r
+    → Grown half slots before after r
+grown-insert half count slots b before after r two h i =
+    record { most = omega (arith, i .most); other = λ m k. i .other (1 - half) 0 m (omega arith); sized = i .sized }
 
 pub grown-then : (half slots : ℕ) (a b c : List ℕ) (r s : ℕ) → Grown half slots a b r → Grown half slots b c s → Grown half slots a c s
 grown-then half slots a b c r s p q = record { most = q .most; other = λ m h. q .other m h ∙ p .other m h; sized = q .sized ∙ p .sized }
 
 -- ---- what a step leaves
 
-module _ (g : Log) (fm : Formula) (t : Thread) (n k : ℕ) (m : Move) (h : MovedBy g fm (fireAt g fm (conf t) n k) t n k m) where
+module _ (g : Log) (fm : Formula) (t : Thread) (n k : ℕ) (m : Move) (h : MovedBy g fm (fireAt g fm (configOf (t .config)) n k) t n k m) where
   pub move-silent : m .fires ≡ false → moveBy g fm t n k ≡ []
-  move-silent e = by (fireAt g fm (conf t) n k) h
+  move-silent e = by (fireAt g fm (configOf (t .config)) n k) h
     where
       by : (o : Option Config) → MovedBy g fm o t n k m → Runs.arrive (machine g fm) (thread g fm t) n k o [] ≡ []
       by none x = refl
       by (some d) x = absurd (false≢true (sym e ∙ x .fires))
 
   pub move-fires : m .fires ≡ true → (moveBy g fm t n k ≡ thread g fm (m .thread) ∷ []) × Fit fm (m .thread)
-  move-fires e = by (fireAt g fm (conf t) n k) h
+  move-fires e = by (fireAt g fm (configOf (t .config)) n k) h
     where
-      by : (o : Option Config) → MovedBy g fm o t n k m → (Runs.arrive (machine g fm) (thread g fm t) n k o [] ≡ thread g fm (m .thread) ∷ []) × Fit fm (m .thread)
+      by : (o : Option Config) → MovedBy g fm o t n k m
+          → (Runs.arrive (machine g fm) (thread g fm t) n k o [] ≡ thread g fm (m .thread) ∷ []) × Fit fm (m .thread)
       by none x = absurd (true≢false (sym e ∙ x))
       by (some d) x = (ap (λ (y : Runs.Thread (machine g fm)). y ∷ []) (sym (x .is)), x .fit)
 
   -- what it leaves has ended, where it leads to a state that accepts or rejects
-  pub move-final : m .fires ≡ true → ((d : Config) → fireAt g fm (conf t) n k ≡ some d → final fm d ≡ true) → final fm (conf (m .thread)) ≡ true
-  move-final e o = by (fireAt g fm (conf t) n k) refl h
+  pub move-final : m .fires ≡ true → ((d : Config) → fireAt g fm (configOf (t .config)) n k ≡ some d → final fm d ≡ true)
+      → final fm (configOf (m .thread .config)) ≡ true
+  move-final e o = by (fireAt g fm (configOf (t .config)) n k) refl h
     where
-      by : (x : Option Config) → fireAt g fm (conf t) n k ≡ x → MovedBy g fm x t n k m → final fm (conf (m .thread)) ≡ true
+      by : (x : Option Config) → fireAt g fm (configOf (t .config)) n k ≡ x → MovedBy g fm x t n k m → final fm (configOf (m .thread .config)) ≡ true
       by none q x = absurd (true≢false (sym e ∙ x))
       by (some d) q x = ap (λ (y : Runs.Thread (machine g fm)). final fm (y .config)) (x .is) ∙ o d q
 
@@ -99,42 +95,51 @@ module _ (g : Log) (fm : Formula) where
   -- ---- what may wait
 
   -- a step that leads to a state that accepts or rejects leaves nothing that waits
-  pub offered-past : (t : Thread) (n k : ℕ) → ((d : Config) → fireAt g fm (conf t) n k ≡ some d → final fm d ≡ true) → offered g fm n (moveBy g fm t n k) ≡ []
+  pub offered-past : (t : Thread) (n k : ℕ) → ((d : Config) → fireAt g fm (configOf (t .config)) n k ≡ some d → final fm d ≡ true)
+      → offered g fm n (moveBy g fm t n k) ≡ []
   unfolding keep Runs.unended
-  offered-past t n k o = by (fireAt g fm (conf t) n k) refl
+  offered-past t n k o = by (fireAt g fm (configOf (t .config)) n k) refl
     where
-      by : (x : Option Config) → fireAt g fm (conf t) n k ≡ x → offered g fm n (Runs.arrive (machine g fm) (thread g fm t) n k x []) ≡ []
+      by : (x : Option Config) → fireAt g fm (configOf (t .config)) n k ≡ x → offered g fm n (Runs.arrive (machine g fm) (thread g fm t) n k x []) ≡ []
       by none e = refl
       by (some d) e = rw (o d e)
 
   module _ (n : ℕ) (b : Thread) (w : Fit fm b) where
-    unended-is : Runs.unended (machine g fm) (thread g fm b) ≡ (not (final fm (conf b)) && leb (b .steps) 31)
+    unended-is : Runs.unended (machine g fm) (thread g fm b) ≡ (not (final fm (configOf (b .config))) && leb (b .steps) 31)
     unfolding Runs.unended
-    unended-is = ap (λ l. not (final fm (conf b)) && leb l 31) (trail-length b (w .sized .trail-32) (w .most))
+    unended-is = ap (λ l. not (final fm (configOf (b .config))) && leb l 31) (trail-length b (w .trail-32) (w .most))
 
-    offered-by : (c : Bool) → Runs.unended (machine g fm) (thread g fm b) ≡ c → offered g fm n (thread g fm b ∷ []) ≡ keep (Runs.hopeful (machine g fm) n) (only c (thread g fm b) [])
+    offered-by : (c : Bool) → Runs.unended (machine g fm) (thread g fm b) ≡ c
+        → offered g fm n (thread g fm b ∷ []) ≡ keep (Runs.hopeful (machine g fm) n) (only c (thread g fm b) [])
     unfolding keep
     offered-by c e = ap (λ z. keep (Runs.hopeful (machine g fm) n) (only z (thread g fm b) [])) e
 
     -- a thread that has ended, or with 32 steps, does not wait
-    pub offered-final : final fm (conf b) ≡ true → offered g fm n (thread g fm b ∷ []) ≡ []
+    pub offered-final : final fm (configOf (b .config)) ≡ true → offered g fm n (thread g fm b ∷ []) ≡ []
     unfolding keep
     offered-final e = offered-by false (unended-is ∙ ap (λ z. not z && leb (b .steps) 31) e)
 
     pub offered-long : 32 ≤ b .steps → offered g fm n (thread g fm b ∷ []) ≡ []
     unfolding keep
-    offered-long l = offered-by false (unended-is ∙ ap (λ z. not (final fm (conf b)) && z) (lt-leb (b .steps) 31 (omega arith)) ∙ and-false (not (final fm (conf b))))
+    offered-long l =
+        offered-by false (unended-is ∙ ap (λ z. not (final fm (configOf (b .config))) && z) (lt-leb (b .steps) 31 (omega arith))
+        ∙ and-false (not (final fm (configOf (b .config)))))
 
-    pub offered-open : final fm (conf b) ≡ false → b .steps < 32 → offered g fm n (thread g fm b ∷ []) ≡ keep (Runs.hopeful (machine g fm) n) (thread g fm b ∷ [])
+    pub offered-open : final fm (configOf (b .config)) ≡ false → b .steps < 32
+        → offered g fm n (thread g fm b ∷ []) ≡ keep (Runs.hopeful (machine g fm) n) (thread g fm b ∷ [])
     offered-open e l = offered-by true (unended-is ∙ ap (λ z. not z && leb (b .steps) 31) e ∙ le-leb (b .steps) 31 (omega arith))
 
   -- ---- what a thread offers
 
   offered-append : (n : ℕ) (xs ys : List (Runs.Thread (machine g fm))) → offered g fm n (xs ++ ys) ≡ offered g fm n xs ++ offered g fm n ys
-  offered-append n xs ys = ap (keep (Runs.hopeful (machine g fm) n)) (keep-append (Runs.unended (machine g fm)) xs ys) ∙ keep-append (Runs.hopeful (machine g fm) n) (keep (Runs.unended (machine g fm)) xs) (keep (Runs.unended (machine g fm)) ys)
+  offered-append n xs ys =
+      ap (keep (Runs.hopeful (machine g fm) n)) (keep-append (Runs.unended (machine g fm)) xs ys)
+      ∙ keep-append (Runs.hopeful (machine g fm) n) (keep (Runs.unended (machine g fm)) xs) (keep (Runs.unended (machine g fm)) ys)
 
   -- the steps from k on: what step k leaves, then what those after it leave
-  pub offers-next : (t : Thread) (n k s : ℕ) → k < s → offered g fm n (Runs.firing (machine g fm) (thread g fm t) n k (s - k)) ≡ offered g fm n (moveBy g fm t n k) ++ offered g fm n (Runs.firing (machine g fm) (thread g fm t) n (k + 1) (s - (k + 1)))
+  pub offers-next : (t : Thread) (n k s : ℕ) → k < s
+      → offered g fm n (Runs.firing (machine g fm) (thread g fm t) n k (s - k)) ≡ offered g fm n (moveBy g fm t n k)
+      ++ offered g fm n (Runs.firing (machine g fm) (thread g fm t) n (k + 1) (s - (k + 1)))
   offers-next t n k s l =
       let one : k + 1 ≡ suc k = omega arith in
       ap (offered g fm n) (firing-next g fm t n k (s - k) (s - suc k) (omega arith))
@@ -148,31 +153,45 @@ module _ (g : Log) (fm : Formula) where
       ap (λ j. offered g fm n (Runs.firing (machine g fm) (thread g fm t) n k j)) none-left
 
   -- its stay, then its moves
-  offers-are : (t : Thread) (n : ℕ) → keep (Runs.hopeful (machine g fm) n) (Runs.offers (machine g fm) n (thread g fm t)) ≡ keep (Runs.hopeful (machine g fm) n) (only (Runs.stays (machine g fm) n (thread g fm t)) (thread g fm t) []) ++ offered g fm n (Runs.moves (machine g fm) n (thread g fm t))
+  offers-are : (t : Thread) (n : ℕ)
+      → keep (Runs.hopeful (machine g fm) n) (Runs.offers (machine g fm) n (thread g fm t))
+      ≡ keep (Runs.hopeful (machine g fm) n) (only (Runs.stays (machine g fm) n (thread g fm t)) (thread g fm t) [])
+      ++ offered g fm n (Runs.moves (machine g fm) n (thread g fm t))
   unfolding Runs.offers
-  offers-are t n = ap (keep (Runs.hopeful (machine g fm) n)) (by (Runs.stays (machine g fm) n (thread g fm t))) ∙ keep-append (Runs.hopeful (machine g fm) n) (only (Runs.stays (machine g fm) n (thread g fm t)) (thread g fm t) []) (keep (Runs.unended (machine g fm)) (Runs.moves (machine g fm) n (thread g fm t)))
+  offers-are t n =
+      ap (keep (Runs.hopeful (machine g fm) n)) (by (Runs.stays (machine g fm) n (thread g fm t)))
+      ∙ keep-append (Runs.hopeful (machine g fm) n) (only (Runs.stays (machine g fm) n (thread g fm t)) (thread g fm t) [])
+      (keep (Runs.unended (machine g fm)) (Runs.moves (machine g fm) n (thread g fm t)))
     where
-      by : (b : Bool) → only b (thread g fm t) (keep (Runs.unended (machine g fm)) (Runs.moves (machine g fm) n (thread g fm t))) ≡ only b (thread g fm t) [] ++ keep (Runs.unended (machine g fm)) (Runs.moves (machine g fm) n (thread g fm t))
+      by : (b : Bool)
+          → only b (thread g fm t) (keep (Runs.unended (machine g fm)) (Runs.moves (machine g fm) n (thread g fm t))) ≡ only b (thread g fm t) []
+          ++ keep (Runs.unended (machine g fm)) (Runs.moves (machine g fm) n (thread g fm t))
       by true = refl
       by false = refl
 
   -- the same, with its moves and its stay as the choice has them
-  pub offers-parts : (t : Thread) (n : ℕ) (r : Choice) → Chosen g fm t n r → keep (Runs.hopeful (machine g fm) n) (Runs.offers (machine g fm) n (thread g fm t)) ≡ keep (Runs.hopeful (machine g fm) n) (only (r .stays) (thread g fm t) []) ++ offered g fm n (Runs.firing (machine g fm) (thread g fm t) n (r .from) (r .to - r .from))
+  pub offers-parts : (t : Thread) (n : ℕ) (r : Choice) → Chosen g fm t n r
+      → keep (Runs.hopeful (machine g fm) n) (Runs.offers (machine g fm) n (thread g fm t))
+      ≡ keep (Runs.hopeful (machine g fm) n) (only (r .stays) (thread g fm t) [])
+      ++ offered g fm n (Runs.firing (machine g fm) (thread g fm t) n (r .from) (r .to - r .from))
   offers-parts t n r c =
       offers-are t n
-      ∙ ap (λ b. keep (Runs.hopeful (machine g fm) n) (only b (thread g fm t) []) ++ offered g fm n (Runs.moves (machine g fm) n (thread g fm t))) (sym (c .stays-is))
+      ∙ ap (λ b. keep (Runs.hopeful (machine g fm) n) (only b (thread g fm t) []) ++ offered g fm n (Runs.moves (machine g fm) n (thread g fm t)))
+      (sym (c .stays-is))
       ∙ ap (λ l. keep (Runs.hopeful (machine g fm) n) (only (r .stays) (thread g fm t) []) ++ offered g fm n l) (c .moves-are)
 
 module _ (g : Log) (fm : Formula) (half slots : ℕ) where
   -- ---- inserting
 
   -- nothing is inserted
-  pub within-none : (count : ℕ) (l : List ℕ) (bs : List (Runs.Thread (machine g fm))) → bs ≡ [] → count ≤ slots → Kept fm half count l → Within g fm half slots (waitingIn g fm half count l) bs l count
+  pub within-none : (count : ℕ) (l : List ℕ) (bs : List (Runs.Thread (machine g fm))) → bs ≡ [] → count ≤ slots → Kept fm half count l
+      → Within g fm half slots (waitingIn g fm half count l) bs l count
   unfolding insertWithin
   within-none count l bs e h k = inl (h, ap (insertWithin (machine g fm) slots (waitingIn g fm half count l)) e, k)
 
   -- the same threads, named otherwise
-  pub within-as : (ths xs ys : List (Runs.Thread (machine g fm))) (after : List ℕ) (r : ℕ) → xs ≡ ys → Within g fm half slots ths ys after r → Within g fm half slots ths xs after r
+  pub within-as : (ths xs ys : List (Runs.Thread (machine g fm))) (after : List ℕ) (r : ℕ) → xs ≡ ys → Within g fm half slots ths ys after r
+      → Within g fm half slots ths xs after r
   within-as ths xs ys after r e h = subst (λ (z : List (Runs.Thread (machine g fm))). Within g fm half slots ths z after r) (sym e) h
 
   -- inserting has given `whole`: a list, which stands in the half, or nothing
@@ -184,7 +203,8 @@ module _ (g : Log) (fm : Formula) (half slots : ℕ) where
     pub is : whole ≡ insertWithin (machine g fm) slots (waitingIn g fm half r after) bs
     pub kept : Kept fm half r after
 
-  module _ (whole : Option (List (Runs.Thread (machine g fm)))) (xs ys : List (Runs.Thread (machine g fm))) (mid after : List ℕ) (r s : ℕ) (left : Left whole (xs ++ ys) mid r) where
+  module _ (whole : Option (List (Runs.Thread (machine g fm)))) (xs ys : List (Runs.Thread (machine g fm))) (mid after : List ℕ) (r s : ℕ)
+      (left : Left whole (xs ++ ys) mid r) where
     both : whole ≡ chain (machine g fm) (insertWithin (machine g fm) slots (waitingIn g fm half r mid) xs) (λ more. insertWithin (machine g fm) slots more ys)
     both = left .is ∙ within-append (machine g fm) slots (waitingIn g fm half r mid) xs ys
 
@@ -199,18 +219,22 @@ module _ (g : Log) (fm : Formula) (half slots : ℕ) where
     left-stopped (inr p) l = inr (p .0, both ∙ ap (λ o. chain (machine g fm) o (λ more. insertWithin (machine g fm) slots more ys)) (p .1))
 
   -- the same threads, named otherwise
-  pub left-as : (whole : Option (List (Runs.Thread (machine g fm)))) (xs ys : List (Runs.Thread (machine g fm))) (after : List ℕ) (r : ℕ) → xs ≡ ys → Left whole xs after r → Left whole ys after r
+  pub left-as : (whole : Option (List (Runs.Thread (machine g fm)))) (xs ys : List (Runs.Thread (machine g fm))) (after : List ℕ) (r : ℕ) → xs ≡ ys
+      → Left whole xs after r → Left whole ys after r
   left-as whole xs ys after r e h = subst (λ (z : List (Runs.Thread (machine g fm))). Left whole z after r) e h
 
   -- the rest of them, and nothing at all
-  pub left-last : (whole : Option (List (Runs.Thread (machine g fm)))) (bs : List (Runs.Thread (machine g fm))) (mid after : List ℕ) (r s : ℕ) → Left whole bs mid r → Within g fm half slots (waitingIn g fm half r mid) bs after s → Done whole after s
+  pub left-last : (whole : Option (List (Runs.Thread (machine g fm)))) (bs : List (Runs.Thread (machine g fm))) (mid after : List ℕ) (r s : ℕ)
+      → Left whole bs mid r → Within g fm half slots (waitingIn g fm half r mid) bs after s → Done whole after s
   left-last whole bs mid after r s h w = subst (λ z. Done z after s) (sym (h .is)) w
 
-  pub left-none : (whole : Option (List (Runs.Thread (machine g fm)))) (bs : List (Runs.Thread (machine g fm))) (after : List ℕ) (r : ℕ) → bs ≡ [] → r ≤ slots → Left whole bs after r → Done whole after r
+  pub left-none : (whole : Option (List (Runs.Thread (machine g fm)))) (bs : List (Runs.Thread (machine g fm))) (after : List ℕ) (r : ℕ) → bs ≡ [] → r ≤ slots
+      → Left whole bs after r → Done whole after r
   left-none whole bs after r e l h = left-last whole bs after after r r h (within-none r after bs e l (h .kept))
 
   -- one thread was inserted
-  within-one : (count : ℕ) (b : Thread) (before after : List ℕ) (r : ℕ) → count ≤ slots → Kept fm half count before → Going fm b → Inserted half count slots b before after r → Within g fm half slots (waitingIn g fm half count before) (thread g fm b ∷ []) after r
+  within-one : (count : ℕ) (b : Thread) (before after : List ℕ) (r : ℕ) → count ≤ slots → Kept fm half count before → Going fm b
+      → Inserted half count slots b before after r → Within g fm half slots (waitingIn g fm half count before) (thread g fm b ∷ []) after r
   unfolding insertWithin
   within-one count b before after r h k w i = by (leb r slots) refl
     where
@@ -229,10 +253,12 @@ module _ (g : Log) (fm : Formula) (half slots : ℕ) where
           let q = i .listed l in
           inl (
             l,
-            within-fits (machine g fm) slots (waitingIn g fm half count before) (thread g fm b) [] (omega (arith, longer)) ∙ ap (λ (z : List (Runs.Thread (machine g fm))). some z) (inserted ∙ ap (map (thread g fm)) (sym q)),
+            within-fits (machine g fm) slots (waitingIn g fm half count before) (thread g fm b) [] (omega (arith, longer))
+                ∙ ap (λ (z : List (Runs.Thread (machine g fm))). some z) (inserted ∙ ap (map (thread g fm)) (sym q)),
             record {
               fit = subst (All (Fit fm)) (sym q) (insert-all (Fit fm) b (list half count before) (w .fit) (k .fit));
-              short = subst (All (λ (t : Thread). t .steps < 32)) (sym q) (insert-all (λ (t : Thread). t .steps < 32) b (list half count before) (w .short) (k .short));
+              short = subst (All (λ (t : Thread). t .steps < 32)) (sym q)
+                  (insert-all (λ (t : Thread). t .steps < 32) b (list half count before) (w .short) (k .short));
             },
           )
       by false e =
@@ -241,19 +267,28 @@ module _ (g : Log) (fm : Formula) (half slots : ℕ) where
 
   module _ (n count : ℕ) (b : Thread) (before : List ℕ) (h : count ≤ slots) (k : Kept fm half count before) where
     -- some step of its state is not expired
-    pub wait-in : (after : List ℕ) (r : ℕ) → Going fm b → true ≡ Runs.anyAlive (machine g fm) (conf b) n 8 → Inserted half count slots b before after r → Within g fm half slots (waitingIn g fm half count before) (keep (Runs.hopeful (machine g fm) n) (thread g fm b ∷ [])) after r
+    pub wait-in : (after : List ℕ) (r : ℕ) → Going fm b → true ≡ Runs.anyAlive (machine g fm) (configOf (b .config)) n 8
+        → Inserted half count slots b before after r
+        → Within g fm half slots (waitingIn g fm half count before) (keep (Runs.hopeful (machine g fm) n) (thread g fm b ∷ [])) after r
     unfolding keep Runs.hopeful
-    wait-in after r w e i = subst (λ z. Within g fm half slots (waitingIn g fm half count before) (only z (thread g fm b) []) after r) e (within-one count b before after r h k w i)
+    wait-in after r w e i =
+        subst (λ z. Within g fm half slots (waitingIn g fm half count before) (only z (thread g fm b) []) after r) e (within-one count b before after r h k w i)
 
-    pub wait-out : false ≡ Runs.anyAlive (machine g fm) (conf b) n 8 → Within g fm half slots (waitingIn g fm half count before) (keep (Runs.hopeful (machine g fm) n) (thread g fm b ∷ [])) before count
+    pub wait-out : false ≡ Runs.anyAlive (machine g fm) (configOf (b .config)) n 8
+        → Within g fm half slots (waitingIn g fm half count before) (keep (Runs.hopeful (machine g fm) n) (thread g fm b ∷ [])) before count
     unfolding keep Runs.hopeful
-    wait-out e = subst (λ z. Within g fm half slots (waitingIn g fm half count before) (only z (thread g fm b) []) before count) e (within-none count before [] refl h k)
+    wait-out e =
+        subst (λ z. Within g fm half slots (waitingIn g fm half count before) (only z (thread g fm b) []) before count) e (within-none count before [] refl h k)
 
 -- what the j-th thread offers, then what those behind it offer
-pub candidates-next : (g : Log) (fm : Formula) (n half count : ℕ) (l : List ℕ) (j : ℕ) (t : Thread) → j < count → t ≡ threadAt l (place half j) → candidates (machine g fm) n (drop j (waitingIn g fm half count l)) ≡ keep (Runs.hopeful (machine g fm) n) (Runs.offers (machine g fm) n (thread g fm t)) ++ candidates (machine g fm) n (drop (j + 1) (waitingIn g fm half count l))
+pub candidates-next : (g : Log) (fm : Formula) (n half count : ℕ) (l : List ℕ) (j : ℕ) (t : Thread) → j < count → t ≡ threadAt l (place half j)
+    → candidates (machine g fm) n (drop j (waitingIn g fm half count l)) ≡ keep (Runs.hopeful (machine g fm) n) (Runs.offers (machine g fm) n (thread g fm t))
+    ++ candidates (machine g fm) n (drop (j + 1) (waitingIn g fm half count l))
 candidates-next g fm n half count l j t h e =
-    ap (candidates (machine g fm) n) (waiting-next g fm half count l j t h e) ∙ candidates-cons (machine g fm) n (thread g fm t) (drop (j + 1) (waitingIn g fm half count l))
+    ap (candidates (machine g fm) n) (waiting-next g fm half count l j t h e)
+    ∙ candidates-cons (machine g fm) n (thread g fm t) (drop (j + 1) (waitingIn g fm half count l))
 
-pub candidates-none : (g : Log) (fm : Formula) (n half count : ℕ) (l : List ℕ) (j : ℕ) → count ≤ j → candidates (machine g fm) n (drop j (waitingIn g fm half count l)) ≡ []
+pub candidates-none : (g : Log) (fm : Formula) (n half count : ℕ) (l : List ℕ) (j : ℕ) → count ≤ j
+    → candidates (machine g fm) n (drop j (waitingIn g fm half count l)) ≡ []
 unfolding candidates Runs.next gather keep
 candidates-none g fm n half count l j h = ap (candidates (machine g fm) n) (waiting-done g fm half count l j h)

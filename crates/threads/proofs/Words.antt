@@ -13,15 +13,18 @@ use Rattle.formula.specs.Encode.{kindByte}
 use Rattle.formula.specs.Correct.{isFinal}
 use Rattle.machine.specs.Configuration.{Config}
 use Rattle.machine.specs.Machine.{kindIs, isCommitted, final, committed}
+use Rattle.machine_code.specs.inner.Bytes.{configOf}
 use Rattle.slots.specs.declared.Thread.{Thread}
-use Rattle.threads.specs.Setting.{Setting, Fit, conf}
+use Rattle.threads.specs.declared.Rules.{Rules}
+use Rattle.threads.specs.inner.Setting.{Setting, Fit}
 
 -- the kind words of the states
 abbrev words : List State → List ℕ
 words xs = map (λ (s : State). kindByte (s .kind)) xs
 
 -- a test on the words that says of each kind what a property says, says it of each declared state
-word-is : (test : ℕ → Bool) (p : StateKind → Bool) → ((k : StateKind) → test (kindByte k) ≡ p k) → (xs : List State) (s : ℕ) → s < length xs → test (getD (words xs) s 0) ≡ kindIs p (getElem? xs s)
+word-is : (test : ℕ → Bool) (p : StateKind → Bool) → ((k : StateKind) → test (kindByte k) ≡ p k) → (xs : List State) (s : ℕ) → s < length xs
+    → test (getD (words xs) s 0) ≡ kindIs p (getElem? xs s)
 word-is test p h [] s l = absurd (omega arith)
 word-is test p h (x ∷ xs) zero l = h (x .kind)
 word-is test p h (x ∷ xs) (suc s) l = word-is test p h xs s (omega arith)
@@ -38,18 +41,20 @@ by-committed committedKind = refl
 by-committed accept = refl
 by-committed reject = refl
 
-module _ (g : Log) (fm : Formula) (f table kinds : List ℕ) (up : List Bool) (s : Setting g fm f table kinds up) where
-  word-at : (i : ℕ) → i < length (fm .states) → getD kinds i 0 ≡ getD (words (fm .states)) i 0
+module _ (g : Log) (fm : Formula) (f table : List ℕ) (rules : Rules) (s : Setting g fm f table rules) where
+  word-at : (i : ℕ) → i < length (fm .states) → getD (rules .kinds) i 0 ≡ getD (words (fm .states)) i 0
   word-at i h = ap (λ (l : List ℕ). getD l i 0) (s .kinds-are) ∙ getD-pad 16 0 (words (fm .states)) i (omega (arith, s .formula .states))
 
-  pub final-at : (d : Config) → d .state < length (fm .states) → leb 2 (getD kinds (d .state) 0) ≡ final fm d
+  pub final-at : (d : Config) → d .state < length (fm .states) → leb 2 (getD (rules .kinds) (d .state) 0) ≡ final fm d
   unfolding final
   final-at d h = ap (leb 2) (word-at (d .state) h) ∙ word-is (leb 2) isFinal by-final (fm .states) (d .state) h
 
-module _ (g : Log) (fm : Formula) (f table kinds : List ℕ) (up : List Bool) (s : Setting g fm f table kinds up) (t : Thread) (h : Fit fm t) where
-  pub final-word : leb 2 (getD kinds (t .state) 0) ≡ final fm (conf t)
-  final-word = final-at g fm f table kinds up s (conf t) (h .valid .declared)
+module _ (g : Log) (fm : Formula) (f table : List ℕ) (rules : Rules) (s : Setting g fm f table rules) (t : Thread) (h : Fit fm t) where
+  pub final-word : leb 2 (getD (rules .kinds) (t .config .state) 0) ≡ final fm (configOf (t .config))
+  final-word = final-at g fm f table rules s (configOf (t .config)) (h .valid .declared)
 
-  pub committed-word : eqb (getD kinds (t .state) 0) 1 ≡ committed fm (conf t)
+  pub committed-word : eqb (getD (rules .kinds) (t .config .state) 0) 1 ≡ committed fm (configOf (t .config))
   unfolding committed
-  committed-word = ap (λ w. eqb w 1) (word-at g fm f table kinds up s (t .state) (h .valid .declared)) ∙ word-is (λ w. eqb w 1) isCommitted by-committed (fm .states) (t .state) (h .valid .declared)
+  committed-word =
+      ap (λ w. eqb w 1) (word-at g fm f table rules s (t .config .state) (h .valid .declared))
+      ∙ word-is (λ w. eqb w 1) isCommitted by-committed (fm .states) (t .config .state) (h .valid .declared)

@@ -1,5 +1,2 @@
 -- What the threads of a search are, over an accepted log and formula, and what one event does to them.
-
-pub mod Setting
-pub mod Event
-pub mod Calls
+pub mod inner

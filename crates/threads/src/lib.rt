@@ -2,13 +2,35 @@
 mod step;
 pub mod table;
 
+use event_log::Event;
+use event_log::Latest;
 use slots::Thread;
 ghost use mathlib.Core.Path.{_≡_};
-ghost use Prim.Native.Nat.{_+_, _*_, _≤_, _<_};
+ghost use Prim.Native.Nat.{_+_, _≤_, _<_};
 ghost use lib.Dec.{leb, eqb};
 ghost use lib.ListN.{length, getD};
-ghost use Rattle.threads.specs.Event.{EndingIs, AdvancedIs};
-ghost use Rattle.threads.specs.Calls.{MovedIs, ChoiceIs, BetterIs, EndedIs, Grown, WaitsIs, OfferIs, OfferMoveIs, OfferMovesIs, StayIs, OfferAllIs};
+ghost use Rattle.threads.specs.inner.Event.{Seated, EndingIs, AdvancedIs};
+ghost use Rattle.threads.specs.inner.Calls.{MovedIs, ChoiceIs, BetterIs, EndedIs, WaitsIs, OfferIs, OfferMoveIs, OfferMovesIs, StayIs, OfferAllIs};
+
+// What stays from event to event: the kind of each state (0 ordinary, 1 committed, 2 accept, 3 reject), and which fields rise.
+pub struct Rules {
+    pub kinds: [u32; 16],
+    pub rises: [bool; 8],
+}
+
+// An event with its number, and the values by which steps are judged expired after it.
+pub struct Moment {
+    pub number: u32,
+    pub event: Event,
+    pub latest: Latest,
+}
+
+// Where a list of threads stands: the half of the slots, its count of threads, and how many slots there are.
+pub struct Seats {
+    pub half: usize,
+    pub count: usize,
+    pub slots: usize,
+}
 
 // The least thread so far, if one was found.
 pub struct Best {
@@ -29,43 +51,43 @@ struct Choice {
     stays: bool,
 }
 
-// The kind of a state: 0 ordinary, 1 committed, 2 accept, 3 reject.
-fn kind_of(kinds: &[u32], state: u32) -> u32
-    ensures { λ r. ⌜ r ≡ getD (now (kinds .entry)) state 0 ⌝ }
+// The kind of a state.
+fn kind_of(rules: Rules, state: u32) -> u32
+    ensures { λ r. ⌜ r ≡ getD (rules .kinds) state 0 ⌝ }
 {
     let at = state as usize;
-    if at < kinds.len() {
-        return kinds[at];
+    if at < 16 {
+        return rules.kinds[at];
     }
     0
 }
 
 // Whether a state accepts or rejects.
-fn is_final(kinds: &[u32], state: u32) -> bool
-    ensures { λ r. ⌜ r ≡ leb 2 (getD (now (kinds .entry)) state 0) ⌝ }
+fn is_final(rules: Rules, state: u32) -> bool
+    ensures { λ r. ⌜ r ≡ leb 2 (getD (rules .kinds) state 0) ⌝ }
 {
-    let kind = kind_of(kinds, state);
+    let kind = kind_of(rules, state);
     2 <= kind
 }
 
 // Whether a state is committed.
-fn is_committed(kinds: &[u32], state: u32) -> bool
-    ensures { λ r. ⌜ r ≡ eqb (getD (now (kinds .entry)) state 0) 1 ⌝ }
+fn is_committed(rules: Rules, state: u32) -> bool
+    ensures { λ r. ⌜ r ≡ eqb (getD (rules .kinds) state 0) 1 ⌝ }
 {
-    let kind = kind_of(kinds, state);
+    let kind = kind_of(rules, state);
     kind == 1
 }
 
-// Step k of a thread's state on event n: whether it fires, and the thread with that step taken.
-fn moved(f: &[u8], table: &[usize], t: Thread, n: u32, event: [u32; 8], k: u32) -> Move
-    requires { ⌜ (n < 1024) × (k < 8) ⌝ }
-    ensures { λ r. ⌜ MovedIs (now (f .entry)) (now (table .entry)) t n event k r ⌝ }
+// Step k of a thread's state on the event: whether it fires, and the thread with that step taken.
+fn moved(f: &[u8], table: &[usize], moment: Moment, t: Thread, k: u32) -> Move
+    requires { ⌜ (moment .number < 1024) × (k < 8) ⌝ }
+    ensures { λ r. ⌜ MovedIs (now (f .entry)) (now (table .entry)) moment t k r ⌝ }
 {
-    let fired = step::fires_at(f, table, t, event, k);
+    let fired = step::fires_at(f, table, moment, t, k);
     let next = fired.thread;
     if fired.fires {
         if next.steps < 32 {
-            let thread = slots::with_step(next, n, k);
+            let thread = slots::with_step(next, moment.number, k);
             return Move {
                 fires: true,
                 thread,
@@ -78,14 +100,14 @@ fn moved(f: &[u8], table: &[usize], t: Thread, n: u32, event: [u32; 8], k: u32) 
     }
 }
 
-// What a thread may do on an event: in a committed state the lowest numbered step that fires is taken; else each step, and
+// What a thread may do on the event: in a committed state the lowest numbered step that fires is taken; else each step, and
 // once the first step is taken they may be passed over.
-fn choice_of(f: &[u8], table: &[usize], kinds: &[u32], t: Thread, event: [u32; 8]) -> Choice
-    ensures { λ r. ⌜ ChoiceIs (now (f .entry)) (now (table .entry)) (now (kinds .entry)) t event r ⌝ }
+fn choice_of(f: &[u8], table: &[usize], rules: Rules, moment: Moment, t: Thread) -> Choice
+    ensures { λ r. ⌜ ChoiceIs (now (f .entry)) (now (table .entry)) rules moment t r ⌝ }
 {
     let begun = 0 < t.steps;
-    if is_committed(kinds, t.state) {
-        let k = step::lowest_at(f, table, t, event);
+    if is_committed(rules, t.config.state) {
+        let k = step::lowest_at(f, table, moment, t);
         if k < 8 {
             return Choice {
                 from: k,
@@ -106,24 +128,23 @@ fn choice_of(f: &[u8], table: &[usize], kinds: &[u32], t: Thread, event: [u32; 8
     }
 }
 
-// The lesser of the best so far and of the run that ends on n by step k, if one does.
+// The lesser of the best so far and of the run that ends on the event by step k, if one does.
 fn better(
     best: Best,
-    t: Thread,
     f: &[u8],
     table: &[usize],
-    kinds: &[u32],
-    n: u32,
-    event: [u32; 8],
+    rules: Rules,
+    moment: Moment,
+    t: Thread,
     k: u32,
 ) -> Best
-    requires { ⌜ (n < 1024) × (k < 8) ⌝ }
-    ensures { λ r. ⌜ BetterIs (now (f .entry)) (now (table .entry)) (now (kinds .entry)) best t n event k r ⌝ }
+    requires { ⌜ (moment .number < 1024) × (k < 8) ⌝ }
+    ensures { λ r. ⌜ BetterIs (now (f .entry)) (now (table .entry)) rules moment best t k r ⌝ }
 {
-    if !step::ends_by(f, table, kinds, t.state, k) {
+    if !step::ends_by(f, table, rules, t.config.state, k) {
         return best;
     }
-    let next = moved(f, table, t, n, event, k);
+    let next = moved(f, table, moment, t, k);
     let thread = next.thread;
     if !next.fires {
         return best;
@@ -140,260 +161,222 @@ fn better(
     }
 }
 
-// The least of the best so far and of the runs that end on n by a step of a thread.
-fn ending_of(
-    best: Best,
-    t: Thread,
-    f: &[u8],
-    table: &[usize],
-    kinds: &[u32],
-    n: u32,
-    event: [u32; 8],
-) -> Best
-    requires { ⌜ n < 1024 ⌝ }
-    ensures { λ r. ⌜ EndedIs (now (f .entry)) (now (table .entry)) (now (kinds .entry)) best t n event r ⌝ }
+// The least of the best so far and of the runs that end on the event by a step of a thread.
+fn ending_of(best: Best, f: &[u8], table: &[usize], rules: Rules, moment: Moment, t: Thread) -> Best
+    requires { ⌜ moment .number < 1024 ⌝ }
+    ensures { λ r. ⌜ EndedIs (now (f .entry)) (now (table .entry)) rules moment best t r ⌝ }
 {
-    let choice = choice_of(f, table, kinds, t, event);
+    let choice = choice_of(f, table, rules, moment, t);
     let to = choice.to;
     let mut least = best;
     let mut k = choice.from;
     while k < to {
-        least = better(least, t, f, table, kinds, n, event, k);
+        least = better(least, f, table, rules, moment, t, k);
         k += 1;
     }
     least
 }
 
-// The least run that ends on event n, of the threads that wait in one half.
+// The least run that ends on the event, of the threads that wait.
 pub fn ending(
     work: &[u32],
-    half: usize,
-    count: usize,
+    seats: Seats,
     f: &[u8],
     table: &[usize],
-    kinds: &[u32],
-    up: [bool; 8],
-    n: u32,
-    event: [u32; 8],
+    rules: Rules,
+    moment: Moment,
 ) -> Best
-    requires { ⌜ (count * 192 ≤ length (now work)) × (half < 2) × (n < 1024) ⌝ }
-    ensures { λ r. ⌜ EndingIs (now (f .entry)) (now (table .entry)) (now (kinds .entry)) up half count (now (work .entry)) n event r ⌝ }
+    requires { ⌜ Seated seats (now work) × (moment .number < 1024) ⌝ }
+    ensures { λ r. ⌜ EndingIs (now (f .entry)) (now (table .entry)) rules moment seats (now (work .entry)) r ⌝ }
 {
     let mut best = Best {
         found: false,
-        thread: Thread {
-            state: 0,
-            held: [false; 8],
-            values: [0u32; 8],
-            counters: [0u32; 16],
-            steps: 0,
-            trail: [0u32; 32],
-        },
+        thread: slots::origin(),
     };
     let mut j: usize = 0;
-    while j < count {
-        let t = slots::load_slot(work, j, half);
-        best = ending_of(best, t, f, table, kinds, n, event);
+    while j < seats.count {
+        let t = slots::load_slot(work, j, seats.half);
+        best = ending_of(best, f, table, rules, moment, t);
         j += 1;
     }
     best
 }
 
-// Inserts a thread into the list of one half, if some step of its state is not expired after the event.
+// Inserts a thread into a list, if some step of its state is not expired after the event.
 fn wait(
     work: &mut [u32],
-    half: usize,
-    count: usize,
-    slots: usize,
+    seats: Seats,
     f: &[u8],
     table: &[usize],
-    up: [bool; 8],
-    event: [u32; 8],
+    rises: [bool; 8],
+    latest: Latest,
     b: Thread,
 ) -> usize
-    requires { ⌜ (slots * 192 ≤ length (now work)) × (half < 2) × (count ≤ slots) ⌝ }
-    ensures { λ r. ⌜ Grown half slots (now (work .entry)) (now (work .exit)) r × WaitsIs (now (f .entry)) (now (table .entry)) up half count slots event b (now (work .entry)) (now (work .exit)) r ⌝ }
+    requires { ⌜ Seated seats (now work) ⌝ }
+    ensures { λ r. ⌜ WaitsIs (now (f .entry)) (now (table .entry)) rises latest seats b (now (work .entry)) (now (work .exit)) r ⌝ }
 {
-    if step::hopeful_at(f, table, up, b, event) {
-        return slots::insert(work, half, count, slots, b);
+    if step::hopeful_at(f, table, rises, latest, b) {
+        return slots::insert(work, seats.half, seats.count, seats.slots, b);
     }
-    count
+    seats.count
 }
 
 // Inserts a thread that a step has left, if it may wait: it has not ended, in at most 31 steps, and some step of its state is
 // not expired.
 fn offer(
     work: &mut [u32],
-    half: usize,
-    count: usize,
-    slots: usize,
+    seats: Seats,
     f: &[u8],
     table: &[usize],
-    kinds: &[u32],
-    up: [bool; 8],
-    event: [u32; 8],
+    rules: Rules,
+    moment: Moment,
     b: Thread,
 ) -> usize
-    requires { ⌜ (slots * 192 ≤ length (now work)) × (half < 2) × (count ≤ slots) ⌝ }
-    ensures { λ r. ⌜ Grown half slots (now (work .entry)) (now (work .exit)) r × OfferIs (now (f .entry)) (now (table .entry)) (now (kinds .entry)) up half count slots event b (now (work .entry)) (now (work .exit)) r ⌝ }
+    requires { ⌜ Seated seats (now work) ⌝ }
+    ensures { λ r. ⌜ OfferIs (now (f .entry)) (now (table .entry)) rules moment seats b (now (work .entry)) (now (work .exit)) r ⌝ }
 {
-    if is_final(kinds, b.state) {
-        return count;
+    if is_final(rules, b.config.state) {
+        return seats.count;
     }
     if 32 <= b.steps {
-        return count;
+        return seats.count;
     }
-    wait(work, half, count, slots, f, table, up, event, b)
+    let rises = rules.rises;
+    wait(work, seats, f, table, rises, moment.latest, b)
 }
 
-// Offers what step k of a thread's state leaves on event n.
+// Offers what step k of a thread's state leaves on the event.
 fn offer_move(
     work: &mut [u32],
-    half: usize,
-    count: usize,
-    slots: usize,
+    seats: Seats,
     f: &[u8],
     table: &[usize],
-    kinds: &[u32],
-    up: [bool; 8],
-    n: u32,
-    event: [u32; 8],
+    rules: Rules,
+    moment: Moment,
     t: Thread,
     k: u32,
 ) -> usize
-    requires { ⌜ (slots * 192 ≤ length (now work)) × (half < 2) × (count ≤ slots) × (n < 1024) × (k < 8) ⌝ }
-    ensures { λ r. ⌜ Grown half slots (now (work .entry)) (now (work .exit)) r × OfferMoveIs (now (f .entry)) (now (table .entry)) (now (kinds .entry)) up half count slots n event t k (now (work .entry)) (now (work .exit)) r ⌝ }
+    requires { ⌜ Seated seats (now work) × (moment .number < 1024) × (k < 8) ⌝ }
+    ensures { λ r. ⌜ OfferMoveIs (now (f .entry)) (now (table .entry)) rules moment seats t k (now (work .entry)) (now (work .exit)) r ⌝ }
 {
-    if step::ends_by(f, table, kinds, t.state, k) {
-        return count;
+    if step::ends_by(f, table, rules, t.config.state, k) {
+        return seats.count;
     }
-    let next = moved(f, table, t, n, event, k);
+    let next = moved(f, table, moment, t, k);
     let b = next.thread;
     if next.fires {
-        return offer(work, half, count, slots, f, table, kinds, up, event, b);
+        return offer(work, seats, f, table, rules, moment, b);
     }
-    count
+    seats.count
 }
 
 // Offers what the steps that a thread may take leave, by rising step number; it stops where one more slot is needed.
 fn offer_moves(
     work: &mut [u32],
-    half: usize,
-    count: usize,
-    slots: usize,
+    seats: Seats,
     f: &[u8],
     table: &[usize],
-    kinds: &[u32],
-    up: [bool; 8],
-    n: u32,
-    event: [u32; 8],
+    rules: Rules,
+    moment: Moment,
     t: Thread,
     choice: Choice,
 ) -> usize
-    requires { ⌜ (slots * 192 ≤ length (now work)) × (half < 2) × (count ≤ slots) × (n < 1024) × (choice .to ≤ 8) ⌝ }
-    ensures { λ r. ⌜ Grown half slots (now (work .entry)) (now (work .exit)) r × OfferMovesIs (now (f .entry)) (now (table .entry)) (now (kinds .entry)) up half count slots n event t choice (now (work .entry)) (now (work .exit)) r ⌝ }
+    requires { ⌜ Seated seats (now work) × (moment .number < 1024) × (choice .to ≤ 8) ⌝ }
+    ensures { λ r. ⌜ OfferMovesIs (now (f .entry)) (now (table .entry)) rules moment seats t choice (now (work .entry)) (now (work .exit)) r ⌝ }
 {
-    let mut len = count;
+    let mut count = seats.count;
     let mut k = choice.from;
     while k < choice.to {
-        len = offer_move(work, half, len, slots, f, table, kinds, up, n, event, t, k);
-        if slots < len {
-            return len;
+        let grown = Seats {
+            half: seats.half,
+            count,
+            slots: seats.slots,
+        };
+        count = offer_move(work, grown, f, table, rules, moment, t, k);
+        if seats.slots < count {
+            return count;
         }
         k += 1;
     }
-    len
+    count
 }
 
 // Inserts a thread as it stands, if it may stay and some step of its state is not expired.
 fn stay(
     work: &mut [u32],
-    half: usize,
-    count: usize,
-    slots: usize,
+    seats: Seats,
     f: &[u8],
     table: &[usize],
-    up: [bool; 8],
-    event: [u32; 8],
+    rules: Rules,
+    moment: Moment,
     t: Thread,
     stays: bool,
 ) -> usize
-    requires { ⌜ (slots * 192 ≤ length (now work)) × (half < 2) × (count ≤ slots) ⌝ }
-    ensures { λ r. ⌜ Grown half slots (now (work .entry)) (now (work .exit)) r × StayIs (now (f .entry)) (now (table .entry)) up half count slots event t stays (now (work .entry)) (now (work .exit)) r ⌝ }
+    requires { ⌜ Seated seats (now work) ⌝ }
+    ensures { λ r. ⌜ StayIs (now (f .entry)) (now (table .entry)) rules moment seats t stays (now (work .entry)) (now (work .exit)) r ⌝ }
 {
     if stays {
-        return wait(work, half, count, slots, f, table, up, event, t);
+        let rises = rules.rises;
+        return wait(work, seats, f, table, rises, moment.latest, t);
     }
-    count
+    seats.count
 }
 
-// Offers what a thread leaves on event n: its stay, then its moves by rising step number.
+// Offers what a thread leaves on the event: its stay, then its moves by rising step number.
 fn offer_all(
     work: &mut [u32],
-    half: usize,
-    count: usize,
-    slots: usize,
+    seats: Seats,
     f: &[u8],
     table: &[usize],
-    kinds: &[u32],
-    up: [bool; 8],
-    n: u32,
-    event: [u32; 8],
+    rules: Rules,
+    moment: Moment,
     t: Thread,
 ) -> usize
-    requires { ⌜ (slots * 192 ≤ length (now work)) × (half < 2) × (count ≤ slots) × (n < 1024) ⌝ }
-    ensures { λ r. ⌜ Grown half slots (now (work .entry)) (now (work .exit)) r × OfferAllIs (now (f .entry)) (now (table .entry)) (now (kinds .entry)) up half count slots n event t (now (work .entry)) (now (work .exit)) r ⌝ }
+    requires { ⌜ Seated seats (now work) × (moment .number < 1024) ⌝ }
+    ensures { λ r. ⌜ OfferAllIs (now (f .entry)) (now (table .entry)) rules moment seats t (now (work .entry)) (now (work .exit)) r ⌝ }
 {
-    let choice = choice_of(f, table, kinds, t, event);
-    let stays = choice.stays;
-    let len = stay(work, half, count, slots, f, table, up, event, t, stays);
-    if slots < len {
-        return len;
+    let choice = choice_of(f, table, rules, moment, t);
+    let count = stay(work, seats, f, table, rules, moment, t, choice.stays);
+    if seats.slots < count {
+        return count;
     }
-    offer_moves(
-        work,
-        half,
-        len,
-        slots,
-        f,
-        table,
-        kinds,
-        up,
-        n,
-        event,
-        t,
-        choice,
-    )
+    let grown = Seats {
+        half: seats.half,
+        count,
+        slots: seats.slots,
+    };
+    offer_moves(work, grown, f, table, rules, moment, t, choice)
 }
 
-// Builds the waiting list after event n in the other half, from the threads that waited before it; it stops where one more
+// Builds the waiting list after the event in the other half, from the threads that waited before it; it stops where one more
 // slot is needed. The count of that list, one more than the slots where it stopped.
 pub fn advance(
     work: &mut [u32],
-    half: usize,
-    count: usize,
-    slots: usize,
+    seats: Seats,
     f: &[u8],
     table: &[usize],
-    kinds: &[u32],
-    up: [bool; 8],
-    n: u32,
-    event: [u32; 8],
+    rules: Rules,
+    moment: Moment,
 ) -> usize
-    requires { ⌜ (slots * 192 ≤ length (now work)) × (half < 2) × (count ≤ slots) × (n < 1024) ⌝ }
-    ensures { λ r. ⌜ AdvancedIs (now (f .entry)) (now (table .entry)) (now (kinds .entry)) up half count slots (now (work .entry)) (now (work .exit)) n event r ⌝ }
-    ensures { λ r. ⌜ (r ≤ slots + 1) × (length (now (work .exit)) ≡ length (now (work .entry))) ⌝ }
+    requires { ⌜ Seated seats (now work) × (moment .number < 1024) ⌝ }
+    ensures { λ r. ⌜ AdvancedIs (now (f .entry)) (now (table .entry)) rules moment seats (now (work .entry)) (now (work .exit)) r ⌝ }
+    ensures { λ r. ⌜ (r ≤ seats .slots + 1) × (length (now (work .exit)) ≡ length (now (work .entry))) ⌝ }
 {
-    let other = 1 - half;
-    let mut len: usize = 0;
+    let other = 1 - seats.half;
+    let mut count: usize = 0;
     let mut j: usize = 0;
-    while j < count {
-        let t = slots::load_slot(&work[..], j, half);
-        len = offer_all(work, other, len, slots, f, table, kinds, up, n, event, t);
-        if slots < len {
-            return len;
+    while j < seats.count {
+        let t = slots::load_slot(&work[..], j, seats.half);
+        let next = Seats {
+            half: other,
+            count,
+            slots: seats.slots,
+        };
+        count = offer_all(work, next, f, table, rules, moment, t);
+        if seats.slots < count {
+            return count;
         }
         j += 1;
     }
-    len
+    count
 }

@@ -1,10 +1,13 @@
 // The table of an event: where each step stands, in its first half 0 where the event alone keeps the step from firing, in its second
 // half 0 where the event alone makes it expired. A TEST reads no variable, so that one look serves every thread.
+use crate::Moment;
+use crate::Seats;
 ghost use mathlib.Core.Path.{_≡_};
 ghost use mathlib.Core.Bool.{true, cond};
-ghost use Prim.Native.Nat.{_*_, _≤_, _<_};
+ghost use Prim.Native.Nat.{_<_};
 ghost use lib.ListN.{length, getD};
-ghost use Rattle.threads.specs.Setting.{Wide, MarkedIs};
+ghost use Rattle.threads.specs.inner.Event.{Seated};
+ghost use Rattle.threads.specs.inner.Setting.{Wide, MarkedIs};
 
 // An entry of a table, 0 past its end.
 fn entry(steps: &[usize], i: usize) -> usize
@@ -34,24 +37,45 @@ fn unless(cleared: bool, at: usize) -> usize
     if cleared { 0 } else { at }
 }
 
-// What the event alone says of the step at index i.
-fn mark_entry(table: &mut [usize], i: usize, f: &[u8], steps: &[usize], up: &[bool], event: &[u32])
+// What the event alone says of the step at index i; a step that is past due has a TEST that is false on the event.
+fn mark_entry(
+    table: &mut [usize],
+    i: usize,
+    f: &[u8],
+    steps: &[usize],
+    rises: [bool; 8],
+    moment: Moment,
+)
     requires { ⌜ (length (now table) ≡ 256) × (i < 128) ⌝ }
-    ensures { λ _. ⌜ MarkedIs (now (f .entry)) (now (steps .entry)) (now (up .entry)) (now (event .entry)) (now (table .entry)) (now (table .exit)) ⌝ }
+    ensures { λ _. ⌜ MarkedIs (now (f .entry)) (now (steps .entry)) rises moment (now (table .entry)) (now (table .exit)) ⌝ }
 {
-    let mark = interpreter::marks::mark_step(f, entry(steps, i), up, event);
-    table[i] = unless(mark.barred, table[i]);
-    table[128 + i] = unless(mark.due, table[128 + i]);
+    let at = entry(steps, i);
+    let event = moment.event;
+    if machine_code::marks::barred(f, at, event) {
+        let latest = moment.latest;
+        table[i] = 0;
+        table[128 + i] = unless(
+            machine_code::marks::due(f, at, rises, latest),
+            table[128 + i],
+        );
+    }
 }
 
 // What the event alone says of the steps of a state.
-fn mark_state(table: &mut [usize], s: usize, f: &[u8], steps: &[usize], up: &[bool], event: &[u32])
+fn mark_state(
+    table: &mut [usize],
+    s: usize,
+    f: &[u8],
+    steps: &[usize],
+    rises: [bool; 8],
+    moment: Moment,
+)
     requires { ⌜ (length (now table) ≡ 256) × (s < 16) ⌝ }
-    ensures { λ _. ⌜ MarkedIs (now (f .entry)) (now (steps .entry)) (now (up .entry)) (now (event .entry)) (now (table .entry)) (now (table .exit)) ⌝ }
+    ensures { λ _. ⌜ MarkedIs (now (f .entry)) (now (steps .entry)) rises moment (now (table .entry)) (now (table .exit)) ⌝ }
 {
     let mut k: usize = 0;
     while k < 8 {
-        mark_entry(table, s * 8 + k, f, steps, up, event);
+        mark_entry(table, s * 8 + k, f, steps, rises, moment);
         k += 1;
     }
 }
@@ -70,14 +94,14 @@ fn mark_once(
     s: usize,
     f: &[u8],
     steps: &[usize],
-    up: &[bool],
-    event: &[u32],
+    rises: [bool; 8],
+    moment: Moment,
 ) -> [bool; 16]
     requires { ⌜ length (now table) ≡ 256 ⌝ }
-    ensures { λ _. ⌜ MarkedIs (now (f .entry)) (now (steps .entry)) (now (up .entry)) (now (event .entry)) (now (table .entry)) (now (table .exit)) ⌝ }
+    ensures { λ _. ⌜ MarkedIs (now (f .entry)) (now (steps .entry)) rises moment (now (table .entry)) (now (table .exit)) ⌝ }
 {
     if is_new(done, s) {
-        mark_state(table, s, f, steps, up, event);
+        mark_state(table, s, f, steps, rises, moment);
         let mut more = done;
         more[s] = true;
         return more;
@@ -89,21 +113,20 @@ fn mark_once(
 pub fn mark_states(
     table: &mut [usize],
     work: &[u32],
-    half: usize,
-    count: usize,
+    seats: Seats,
     f: &[u8],
     steps: &[usize],
-    up: &[bool],
-    event: &[u32],
+    rises: [bool; 8],
+    moment: Moment,
 )
-    requires { ⌜ (length (now table) ≡ 256) × (count * 192 ≤ length (now work)) × (half < 2) ⌝ }
-    ensures { λ _. ⌜ MarkedIs (now (f .entry)) (now (steps .entry)) (now (up .entry)) (now (event .entry)) (now (table .entry)) (now (table .exit)) ⌝ }
+    requires { ⌜ (length (now table) ≡ 256) × Seated seats (now work) ⌝ }
+    ensures { λ _. ⌜ MarkedIs (now (f .entry)) (now (steps .entry)) rises moment (now (table .entry)) (now (table .exit)) ⌝ }
 {
     let mut done = [false; 16];
     let mut j: usize = 0;
-    while j < count {
-        let s = slots::state_at(work, j, half) as usize;
-        let more = mark_once(table, done, s, f, steps, up, event);
+    while j < seats.count {
+        let s = slots::state_at(work, j, seats.half) as usize;
+        let more = mark_once(table, done, s, f, steps, rises, moment);
         done = more;
         j += 1;
     }

@@ -26,8 +26,7 @@ same-length : tie.Need-same-length
 same-length c = search needs
 
 returns : tie.Need-returns
-returns c =
-    let p = c .before .before in
+returns c = let p = c .before .before in
     let l = p .before .before .before in
     let w = l .line-of .ensures in
     let a = l .before .before .before .before .before .args in

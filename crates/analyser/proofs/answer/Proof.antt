@@ -45,8 +45,7 @@ same-length : tie.Need-same-length
 same-length c = search needs
 
 returns : tie.Need-returns
-returns c =
-    let p = c .before .before in
+returns c = let p = c .before .before in
     let d = p .before .before .before in
     let a = d .before .before .before .before .before in
     let g = a .before .before .before .before .before .before .args in
@@ -58,8 +57,7 @@ same-length-2 : tie.Need-same-length-2
 same-length-2 c = search needs
 
 returns-2 : tie.Need-returns-2
-returns-2 c =
-    let p = c .before .before in
+returns-2 c = let p = c .before .before in
     let o = p .before .before .before in
     let a = o .before .before .before .before in
     let g = a .before .before .before .before .before .before .args in

@@ -5,7 +5,7 @@ use lib.ListN.{length, take, drop}
 use native.Mathlib.Omega.{arith}
 use Rattle.text.proofs.Growing.{same-text}
 use Rattle.text.proofs.Parts.{none-yet, one-more}
-use Rattle.text.specs.Adds.{Adds}
+use Rattle.text.specs.inner.Adds.{Adds}
 use Rattle.text.specs.Text.{each, line, lineIn, lines}
 use borrow.Author.Needs.{needs}
 use Rattle.analyser.proofs.lines_in.Statement.{statement}
@@ -49,8 +49,7 @@ loop-less c = search needs
 
 loop-again : tie.Need-loop-again Inv-loop μ-loop
 unfolding lineIn
-loop-again c =
-    let p = c .before .before in
+loop-again c = let p = c .before .before in
     let i = p .before .before .before .before .loop in
     let rows = p .before .before .before .before .before .before .before .args .rows .now in
     let e : i .n * 12 + 12 - i .n * 12 ≡ 12 = omega arith in (
@@ -65,10 +64,11 @@ same-length c = search needs
 returns : tie.Need-returns Inv-loop μ-loop
 unfolding lines
 returns c =
+    let c4 = c .before .before .before .before in
     let i = c .before .loop in
-    let a = c .before .before .before .before .args in
+    let a = c4 .args in
     let e : i .n ≡ a .events = omega arith in
-    same-text (ap (λ k. each (lineIn (a .rows .now)) k 0) e) (omega (arith, c .before .before .before .before .pre .0)) (i .inv .2)
+    same-text (ap (λ k. each (lineIn (a .rows .now)) k 0) e) (omega (arith, c4 .pre .0)) (i .inv .2)
 
 pub lines-in-spec : {M : Type 1} → statement M
 lines-in-spec =

@@ -42,13 +42,17 @@ array-share-prefix-log : tie.Need-array-share-prefix-log
 array-share-prefix-log c = search needs
 
 slice-aggregate-answer : tie.Need-slice-aggregate-answer
-slice-aggregate-answer c = sym (length-take-le _ _ (c .before .before .before .before .before .before .before .before .before .before .before .load .ensures))
+slice-aggregate-answer c =
+    let c11 = c .before .before .before .before .before .before .before .before .before .before .before in
+    sym (length-take-le _ _ (c11 .load .ensures))
 
 array-share-prefix-formula : tie.Need-array-share-prefix-formula
 array-share-prefix-formula c = search needs
 
 slice-aggregate-answer-2 : tie.Need-slice-aggregate-answer-2
-slice-aggregate-answer-2 c = sym (length-take-le _ _ (c .before .before .before .before .before .before .load2 .ensures))
+slice-aggregate-answer-2 c =
+    let c6 = c .before .before .before .before .before .before in
+    sym (length-take-le _ _ (c6 .load2 .ensures))
 
 slice-aggregate-answer-3 : tie.Need-slice-aggregate-answer-3
 slice-aggregate-answer-3 c = search needs

@@ -21,8 +21,7 @@ same-length : tie.Need-same-length
 same-length c = search needs
 
 returns : tie.Need-returns
-returns c =
-    let p = c .before .before in
+returns c = let p = c .before .before in
     let w = p .before .before .before .refused-line .ensures in
     same-text (w .line) (omega (arith, w .fits, w .counts)) (p .add .ensures)
 

@@ -4,7 +4,7 @@ use mathlib.Core.List.{_++_}
 use mathlib.Core.Path.{_≡_, refl, sym, _∙_}
 use lib.ListN.{length-set, length, take, drop}
 use native.Mathlib.Omega.{arith}
-use Rattle.rows.proofs.Filling.{copy-next, copy-done}
+use Rattle.analysis_code.proofs.Filling.{copy-next, copy-done}
 use borrow.Author.Needs.{needs}
 use Rattle.analyser.proofs.row_in.Statement.{statement}
 use Rattle.analyser.proofs.row_in.Tie as tie
@@ -38,8 +38,9 @@ loop-less c = search needs
 
 loop-again : tie.Need-loop-again Inv-loop μ-loop
 loop-again c =
+    let c3 = c .before .before .before in
     let i = c .before .before .loop in
-    let s = c .before .before .before in
+    let s = c3 in
     (omega arith, simp length-set (i .inv .1), copy-next (s .args .part .now) (i .row) (i .i) (i .inv .1 ∙ sym (s .pre)) (omega arith) (i .inv .2))
 
 returns : tie.Need-returns Inv-loop μ-loop

@@ -60,7 +60,9 @@ add-result-3 c = search needs
 
 returns-3 : tie.Need-returns-3
 unfolding valueAt
-returns-3 c = omega (arith, c .before .before .before .byte-at .ensures .0, c .before .before .byte-at2 .ensures .0, c .before .byte-at3 .ensures .0, c .byte-at4 .ensures .0)
+returns-3 c =
+    let c3 = c .before .before .before in
+    omega (arith, c3 .byte-at .ensures .0, c .before .before .byte-at2 .ensures .0, c .before .byte-at3 .ensures .0, c .byte-at4 .ensures .0)
 
 pub value-at-spec : {M : Type 1} → statement M
 value-at-spec =

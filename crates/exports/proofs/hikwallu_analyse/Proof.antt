@@ -18,7 +18,8 @@ same-length-2 c = search needs
 
 returns : tie.Need-returns
 returns c =
-    let a = c .before .before .before .before .before .analyse in
+    let c5 = c .before .before .before .before .before in
+    let a = c5 .analyse in
     record {
       answer = rw (c .outcome-refusal .ensures, a .ensures .outcome);
       rows-are = a .ensures .rows;

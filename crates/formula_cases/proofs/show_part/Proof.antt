@@ -7,7 +7,9 @@ use Rattle.formula_cases.proofs.show_part.Statement.{statement}
 use Rattle.formula_cases.proofs.show_part.Tie as tie
 
 slice-aggregate-show : tie.Need-slice-aggregate-show
-slice-aggregate-show c = sym (length-take-le (c .before .before .before .args .n) (now (c .before .before .before .args .f)) (c .before .if1 .taken))
+slice-aggregate-show c =
+    let c3 = c .before .before .before in
+    sym (length-take-le (c3 .args .n) (now (c3 .args .f)) (c .before .if1 .taken))
 
 show-requires : tie.Need-show-requires
 show-requires c κs = search needs

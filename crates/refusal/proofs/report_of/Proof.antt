@@ -85,19 +85,29 @@ line-requires-11 : tie.Need-line-requires-11
 line-requires-11 c κs = search needs
 
 returns : tie.Need-returns
-returns c = rw (c .line .ensures, c .before .file-number .ensures, c .before .before .before .r .given .1)
+returns c =
+    let c3 = c .before .before .before in
+    rw (c .line .ensures, c .before .file-number .ensures, c3 .r .given .1)
 
 returns-2 : tie.Need-returns-2
-returns-2 c = rw (c .line2 .ensures, c .before .file-number2 .ensures, c .before .before .before .r2 .given .1)
+returns-2 c =
+    let c3 = c .before .before .before in
+    rw (c .line2 .ensures, c .before .file-number2 .ensures, c3 .r2 .given .1)
 
 returns-3 : tie.Need-returns-3
-returns-3 c = rw (c .line3 .ensures, c .before .file-number3 .ensures, c .before .before .before .r3 .given .1)
+returns-3 c =
+    let c3 = c .before .before .before in
+    rw (c .line3 .ensures, c .before .file-number3 .ensures, c3 .r3 .given .1)
 
 returns-4 : tie.Need-returns-4
-returns-4 c = rw (c .line4 .ensures, c .before .file-number4 .ensures, c .before .before .before .r4 .given .1)
+returns-4 c =
+    let c3 = c .before .before .before in
+    rw (c .line4 .ensures, c .before .file-number4 .ensures, c3 .r4 .given .1)
 
 returns-5 : tie.Need-returns-5
-returns-5 c = rw (c .line5 .ensures, c .before .file-number5 .ensures, c .before .before .before .r5 .given .1)
+returns-5 c =
+    let c3 = c .before .before .before in
+    rw (c .line5 .ensures, c .before .file-number5 .ensures, c3 .r5 .given .1)
 
 returns-6 : tie.Need-returns-6
 returns-6 c = rw (c .line6 .ensures, c .before .before .r6 .given .1)

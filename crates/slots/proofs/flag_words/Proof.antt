@@ -1,7 +1,7 @@
 -- `slots::flag_words` meets its contract: after i turns the first i flags are words.
 use lib.ListN.{replicate, length, getD, set}
 use mathlib.Core.Bool.{false}
-use Rattle.slots.specs.Words.{flag}
+use Rattle.machine.specs.Guard.{bit}
 use Rattle.slots.proofs.Copying.{copied, copied-more, copied-all}
 use native.Mathlib.Omega.{arith}
 use mathlib.Core.Path.{_≡_, refl, ap, _∙_}
@@ -11,7 +11,7 @@ use Rattle.slots.proofs.flag_words.Statement.{statement}
 use Rattle.slots.proofs.flag_words.Tie as tie
 
 abbrev Inv-loop : tie.InvT-loop
-Inv-loop held words₀ i₀ words i = (i ≤ 8) × (words ≡ copied flag held words₀ i) × (length words₀ ≡ 8)
+Inv-loop held words₀ i₀ words i = (i ≤ 8) × (words ≡ copied bit held words₀ i) × (length words₀ ≡ 8)
 
 abbrev μ-loop : tie.MeasureT-loop
 μ-loop held words₀ i₀ words i = 8 - i
@@ -42,8 +42,8 @@ loop-again c =
     let a = c .before .before .before .args in
     let l = c .before .before .loop in
     let h : length (a .t1) ≡ 8 = search needs in
-    let e : c .flag-word .result ≡ flag (getD (a .t1) (l .i) false) = c .flag-word .ensures in
-    let m = copied-more flag (a .t1) (replicate 8 0) (l .words) (l .i) false (omega arith) (omega arith) (l .inv .1) in
+    let e : c .flag-word .result ≡ bit (getD (a .t1) (l .i) false) = c .flag-word .ensures in
+    let m = copied-more bit (a .t1) (replicate 8 0) (l .words) (l .i) false (omega arith) (omega arith) (l .inv .1) in
     (omega arith, ap (set (l .words) (l .i)) e ∙ m, l .inv .2)
 
 returns : tie.Need-returns Inv-loop μ-loop
@@ -51,7 +51,7 @@ returns c =
     let a = c .before .before .args in
     let l = c .before .loop in
     let h : length (a .t1) ≡ 8 = search needs in
-    copied-all flag (a .t1) (replicate 8 0) (l .words) (l .i) (omega arith) (omega arith) (l .inv .1)
+    copied-all bit (a .t1) (replicate 8 0) (l .words) (l .i) (omega arith) (omega arith) (l .inv .1)
 
 pub flag-words-spec : {M : Type 1} → statement M
 flag-words-spec =

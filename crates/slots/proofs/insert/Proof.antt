@@ -1,8 +1,8 @@
 -- `slots::insert` meets its contract, by where b's configuration was found.
-use Rattle.slots.proofs.Insertion.{leaves, inserted-lesser, inserted-kept, inserted-more, inserted-none}
-use Rattle.slots.specs.Words.{threadAt, place}
-use Rattle.slots.specs.Threads.{Sized, trailOf, comesAfter}
-use Rattle.runs.specs.Order.{order}
+use Rattle.slots.proofs.ByPlace.{leaves, inserted-lesser, inserted-kept, inserted-more, inserted-none}
+use Rattle.slots.specs.inner.Words.{threadAt, place}
+use Rattle.slots.specs.inner.Threads.{Sized, trailOf, comesAfter}
+use Rattle.runs.specs.inner.Order.{order}
 use denote.Ref.{now}
 use mathlib.Core.Path.{_≡_, ap, sym, _∙_}
 use Prim.Native.Nat.{_+_}
@@ -30,29 +30,43 @@ same-length c = search needs
 
 returns : tie.Need-returns
 returns c =
-    let a = c .before .before .before .before .before .before .before .before .before .before .before .before .args in
-    let s = sized (c .before .before .before .before .before .before .before .before .before .before .before .before) in
+    let c4 = c .before .before .before .before in
+    let c5 = c4 .before in
+    let c6 = c5 .before in
+    let c8 = c6 .before .before in
+    let c9 = c8 .before in
+    let c13 = c9 .before .before .before .before in
+    let start = c13 in
+    let a = start .args in
+    let s = sized start in
     let w = now (a .work) in
-    let p = c .before .before .before .before .before .before .before .before .before .before .before .before .pre in
-    let f = c .before .before .before .before .before .before .before .before .before .find in
-    let o = c .before .before .before .before .before .later in
-    let e : o .result ≡ comesAfter (order (trailOf (threadAt w (place (a .half) (f .result)))) (trailOf (a .b))) = o .ensures ∙ ap (λ t. comesAfter (order (trailOf t) (trailOf (a .b)))) (c .before .before .before .before .before .before .load-slot .ensures) in
+    let p = start .pre in
+    let f = c9 .find in
+    let o = c5 .later in
+    let e : o .result ≡ comesAfter (order (trailOf (threadAt w (place (a .half) (f .result)))) (trailOf (a .b))) = o .ensures
+    ∙ ap (λ t. comesAfter (order (trailOf t) (trailOf (a .b)))) (c6 .load-slot .ensures) in
     let x = c .before .before .store-slot in
-    leaves (a .half) (a .count) (a .slots) (a .b) w (a .count) (x .last .0) (x .ensures) (inserted-lesser (a .half) (a .count) (a .slots) (a .b) s w (p .0) (p .1) (p .2) (f .result) (f .ensures) (c .before .before .before .before .before .before .before .before .if1 .taken) (sym e ∙ c .before .before .before .before .if2 .taken))
+    leaves (a .half) (a .count) (a .slots) (a .b) w (a .count) (x .last .0) (x .ensures)
+    (inserted-lesser (a .half) (a .count) (a .slots) (a .b) s w (p .0) (p .1) (p .2) (f .result) (f .ensures) (c8 .if1 .taken) (sym e ∙ c4 .if2 .taken))
 
 same-length-2 : tie.Need-same-length-2
 same-length-2 c = search needs
 
 returns-2 : tie.Need-returns-2
 returns-2 c =
-    let a = c .before .before .before .before .before .before .before .before .args in
-    let s = sized (c .before .before .before .before .before .before .before .before) in
+    let c4 = c .before .before .before .before in
+    let c5 = c4 .before in
+    let c9 = c5 .before .before .before .before in
+    let start = c9 in
+    let a = start .args in
+    let s = sized start in
     let w = now (a .work) in
-    let p = c .before .before .before .before .before .before .before .before .pre in
-    let f = c .before .before .before .before .before .find in
+    let p = start .pre in
+    let f = c5 .find in
     let o = c .before .later in
-    let e : o .result ≡ comesAfter (order (trailOf (threadAt w (place (a .half) (f .result)))) (trailOf (a .b))) = o .ensures ∙ ap (λ t. comesAfter (order (trailOf t) (trailOf (a .b)))) (c .before .before .load-slot .ensures) in
-    inserted-kept (a .half) (a .count) (a .slots) (a .b) s w (p .0) (p .1) (p .2) (f .result) (f .ensures) (c .before .before .before .before .if1 .taken) (sym e ∙ c .if2 .left)
+    let e : o .result ≡ comesAfter (order (trailOf (threadAt w (place (a .half) (f .result)))) (trailOf (a .b))) = o .ensures
+    ∙ ap (λ t. comesAfter (order (trailOf t) (trailOf (a .b)))) (c .before .before .load-slot .ensures) in
+    inserted-kept (a .half) (a .count) (a .slots) (a .b) s w (p .0) (p .1) (p .2) (f .result) (f .ensures) (c4 .if1 .taken) (sym e ∙ c .if2 .left)
 
 store-slot-requires-2 : tie.Need-store-slot-requires-2
 store-slot-requires-2 c κs = search needs
@@ -65,13 +79,19 @@ same-length-3 c = search needs
 
 returns-3 : tie.Need-returns-3
 returns-3 c =
-    let a = c .before .before .before .before .before .before .before .before .before .args in
-    let s = sized (c .before .before .before .before .before .before .before .before .before) in
+    let c4 = c .before .before .before .before in
+    let c5 = c4 .before in
+    let c6 = c5 .before in
+    let c10 = c6 .before .before .before .before in
+    let start = c10 in
+    let a = start .args in
+    let s = sized start in
     let w = now (a .work) in
-    let p = c .before .before .before .before .before .before .before .before .before .pre in
-    let f = c .before .before .before .before .before .before .find in
+    let p = start .pre in
+    let f = c6 .find in
     let x = c .before .before .store-slot2 in
-    leaves (a .half) (a .count) (a .slots) (a .b) w (a .count + 1) (x .last .0) (x .ensures) (inserted-more (a .half) (a .count) (a .slots) (a .b) s w (p .0) (p .1) (p .2) (f .result) (f .ensures) (c .before .before .before .before .before .if1 .left) (c .before .before .before .before .if3 .taken))
+    leaves (a .half) (a .count) (a .slots) (a .b) w (a .count + 1) (x .last .0) (x .ensures)
+    (inserted-more (a .half) (a .count) (a .slots) (a .b) s w (p .0) (p .1) (p .2) (f .result) (f .ensures) (c5 .if1 .left) (c4 .if3 .taken))
 
 add-result-2 : tie.Need-add-result-2
 add-result-2 c = search needs
@@ -81,10 +101,12 @@ same-length-4 c = search needs
 
 returns-4 : tie.Need-returns-4
 returns-4 c =
-    let a = c .before .before .before .before .before .args in
-    let s = sized (c .before .before .before .before .before) in
+    let c6 = c .before .before .before .before .before .before in
+    let start = c6 in
+    let a = start .args in
+    let s = sized start in
     let w = now (a .work) in
-    let p = c .before .before .before .before .before .pre in
+    let p = start .pre in
     let f = c .before .before .find in
     inserted-none (a .half) (a .count) (a .slots) (a .b) s w (p .0) (p .1) (p .2) (f .result) (f .ensures) (c .before .if1 .left) (c .if3 .left)
 

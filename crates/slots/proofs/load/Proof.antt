@@ -1,7 +1,7 @@
 -- `slots::load` meets its contract, field by field.
 use Rattle.slots.proofs.Words.{threads-equal}
 use Rattle.slots.proofs.Parts.{part-length, put-whole}
-use Rattle.slots.specs.Words.{threadOf}
+use Rattle.slots.specs.inner.Words.{threadOf}
 use lib.ListN.{replicate, take, drop}
 use denote.Ref.{now}
 use native.Mathlib.Omega.{arith}
@@ -67,24 +67,29 @@ part-write-end-3 c = search needs
 write-requires-3 : tie.Need-write-requires-3
 write-requires-3 c κs = search needs
 
-shared-slice-read-t27 : tie.Need-shared-slice-read-t27
-shared-slice-read-t27 c = search needs
+shared-slice-read-t28 : tie.Need-shared-slice-read-t28
+shared-slice-read-t28 c = search needs
 
-shared-slice-read-t31 : tie.Need-shared-slice-read-t31
-shared-slice-read-t31 c = search needs
+shared-slice-read-t28-2 : tie.Need-shared-slice-read-t28-2
+shared-slice-read-t28-2 c = search needs
 
 returns : tie.Need-returns
 unfolding threadOf
 returns c =
-    let l = now (c .before .before .before .before .before .before .before .before .before .before .before .before .before .before .before .before .before .args .part) in
-    let p = c .before .before .before .before .before .before .before .before .before .before .before .before .before .before .before .before .before .pre in
-    let v = c .before .before .before .before .before .before .before .before .before .before .before .write in
-    let k = c .before .before .before .before .before .before .before .write2 in
-    let t = c .before .before .before .write3 in
+    let c3 = c .before .before .before in
+    let c7 = c3 .before .before .before .before in
+    let c11 = c7 .before .before .before .before in
+    let c14 = c11 .before .before .before in
+    let c17 = c14 .before .before .before in
+    let l = now (c17 .args .part) in
+    let p = c17 .pre in
+    let v = c11 .write in
+    let k = c7 .write2 in
+    let t = c3 .write3 in
     let ev : v .last .0 ≡ take 8 (drop 9 l) = v .ensures ∙ put-whole (replicate 8 0) (take 8 (drop 9 l)) (part-length 9 8 l (omega arith)) in
     let ek : k .last .0 ≡ take 16 (drop 17 l) = k .ensures ∙ put-whole (replicate 16 0) (take 16 (drop 17 l)) (part-length 17 16 l (omega arith)) in
     let et : t .last .0 ≡ take 32 (drop 34 l) = t .ensures ∙ put-whole (replicate 32 0) (take 32 (drop 34 l)) (part-length 34 32 l (omega arith)) in
-    threads-equal _ _ _ _ _ _ _ _ _ _ _ _ refl (c .before .before .before .before .before .before .before .before .before .before .before .before .before .before .flags-of .ensures) ev ek refl et
+    threads-equal _ _ _ _ _ _ _ _ _ _ _ _ refl (c14 .flags-of .ensures) ev ek refl et
 
 pub load-spec : {M : Type 1} → statement M
 load-spec =
@@ -109,6 +114,6 @@ load-spec =
     part-write-start-3
     part-write-end-3
     write-requires-3
-    shared-slice-read-t27
-    shared-slice-read-t31
+    shared-slice-read-t28
+    shared-slice-read-t28-2
     returns)

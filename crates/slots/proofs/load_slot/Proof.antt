@@ -1,6 +1,6 @@
 -- `slots::load_slot` meets its contract: a part's thread is the slot's.
 use Rattle.slots.proofs.Slots.{part-thread}
-use Rattle.slots.specs.Words.{place}
+use Rattle.slots.specs.inner.Words.{place}
 use Prim.Native.Nat.{_+_}
 use denote.Ref.{now}
 use mathlib.Core.Path.{refl, _∙_}
@@ -31,7 +31,8 @@ load-requires c κs = search needs
 
 returns : tie.Need-returns
 returns c =
-    let a = c .before .before .before .before .args in
+    let c4 = c .before .before .before .before in
+    let a = c4 .args in
     let o = c .before .before .offset .result in
     c .load .ensures ∙ part-thread (now (a .work)) o (o + 96) (place (a .half) (a .slot)) (c .before .before .offset .ensures) refl
 

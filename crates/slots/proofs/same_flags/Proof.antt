@@ -1,6 +1,6 @@
 -- `slots::same_flags` meets its contract: what is left to compare decides.
 use mathlib.Core.Bool.{false, Bool·beq}
-use Rattle.slots.specs.Words.{bit}
+use Rattle.slots.specs.inner.Words.{isSet}
 use Rattle.base.proofs.Same.{Agreed, agreed-next, agreed-not, agreed-end}
 use native.Mathlib.Omega.{arith}
 use denote.Ref.{now}
@@ -13,7 +13,7 @@ use Rattle.slots.proofs.same_flags.Statement.{statement}
 use Rattle.slots.proofs.same_flags.Tie as tie
 
 abbrev Inv-loop : tie.InvT-loop
-Inv-loop part held i₀ i = (i ≤ 8) × Agreed Bool·beq false (map bit part) held i
+Inv-loop part held i₀ i = (i ≤ 8) × Agreed Bool·beq false (map isSet part) held i
 
 abbrev μ-loop : tie.MeasureT-loop
 μ-loop part held i₀ i = 8 - i
@@ -43,28 +43,30 @@ loop-again : tie.Need-loop-again Inv-loop μ-loop
 loop-again c =
     let a = c .before .before .before .before .before .before .args in
     let l = c .before .before .before .before .loop in
-    let xs = map bit (now (a .part)) in
-    let p : length xs ≡ 8 = length-map (now (a .part)) bit ∙ (c .before .before .before .before .before .before .pre) in
+    let xs = map isSet (now (a .part)) in
+    let p : length xs ≡ 8 = length-map (now (a .part)) isSet ∙ (c .before .before .before .before .before .before .pre) in
     let h : length (a .t2) ≡ 8 = search needs in
-    let e : c .before .agrees .result ≡ Bool·beq (getD xs (l .i) false) (getD (a .t2) (l .i) false) = c .before .agrees .ensures ∙ ap (λ w. Bool·beq w (getD (a .t2) (l .i) false)) (sym (List·getD-map bit (now (a .part)) (l .i) 0)) in
+    let e : c .before .agrees .result ≡ Bool·beq (getD xs (l .i) false) (getD (a .t2) (l .i) false) = c .before .agrees .ensures
+    ∙ ap (λ w. Bool·beq w (getD (a .t2) (l .i) false)) (sym (List·getD-map isSet (now (a .part)) (l .i) 0)) in
     (omega arith, agreed-next Bool·beq false xs (a .t2) (l .i) (omega arith) (omega arith) (sym e ∙ c .if1 .taken) (l .inv .1))
 
 returns : tie.Need-returns Inv-loop μ-loop
 returns c =
     let a = c .before .before .before .before .before .before .args in
     let l = c .before .before .before .before .loop in
-    let xs = map bit (now (a .part)) in
-    let p : length xs ≡ 8 = length-map (now (a .part)) bit ∙ (c .before .before .before .before .before .before .pre) in
+    let xs = map isSet (now (a .part)) in
+    let p : length xs ≡ 8 = length-map (now (a .part)) isSet ∙ (c .before .before .before .before .before .before .pre) in
     let h : length (a .t2) ≡ 8 = search needs in
-    let e : c .before .agrees .result ≡ Bool·beq (getD xs (l .i) false) (getD (a .t2) (l .i) false) = c .before .agrees .ensures ∙ ap (λ w. Bool·beq w (getD (a .t2) (l .i) false)) (sym (List·getD-map bit (now (a .part)) (l .i) 0)) in
+    let e : c .before .agrees .result ≡ Bool·beq (getD xs (l .i) false) (getD (a .t2) (l .i) false) = c .before .agrees .ensures
+    ∙ ap (λ w. Bool·beq w (getD (a .t2) (l .i) false)) (sym (List·getD-map isSet (now (a .part)) (l .i) 0)) in
     agreed-not Bool·beq false xs (a .t2) (l .i) (omega arith) (omega arith) (sym e ∙ c .if1 .left) (l .inv .1)
 
 returns-2 : tie.Need-returns-2 Inv-loop μ-loop
 returns-2 c =
     let a = c .before .before .before .args in
     let l = c .before .loop in
-    let xs = map bit (now (a .part)) in
-    let p : length xs ≡ 8 = length-map (now (a .part)) bit ∙ (c .before .before .before .pre) in
+    let xs = map isSet (now (a .part)) in
+    let p : length xs ≡ 8 = length-map (now (a .part)) isSet ∙ (c .before .before .before .pre) in
     let h : length (a .t2) ≡ 8 = search needs in
     agreed-end Bool·beq false xs (a .t2) (l .i) (omega arith) (omega arith) (l .inv .1)
 

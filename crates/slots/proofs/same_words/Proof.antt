@@ -34,8 +34,10 @@ shared-slice-read-if1-2 c = search needs
 
 returns : tie.Need-returns Inv-loop μ-loop
 returns c =
-    let a = c .before .before .before .before .before .args in
-    let l = c .before .before .before .before .loop in
+    let c4 = c .before .before .before .before in
+    let c5 = c4 .before in
+    let a = c5 .args in
+    let l = c4 .loop in
     agreed-not eqb 0 (now (a .part)) (now (a .words)) (l .i) (omega arith) (omega arith) (ne-eqb _ _ (c .if1 .taken)) (l .inv .1)
 
 add-i : tie.Need-add-i Inv-loop μ-loop
@@ -46,8 +48,10 @@ loop-less c = search needs
 
 loop-again : tie.Need-loop-again Inv-loop μ-loop
 loop-again c =
-    let a = c .before .before .before .before .before .args in
-    let l = c .before .before .before .before .loop in
+    let c4 = c .before .before .before .before in
+    let c5 = c4 .before in
+    let a = c5 .args in
+    let l = c4 .loop in
     (omega arith, agreed-next eqb 0 (now (a .part)) (now (a .words)) (l .i) (omega arith) (omega arith) (eq-eqb _ _ (c .if1 .left)) (l .inv .1))
 
 returns-2 : tie.Need-returns-2 Inv-loop μ-loop

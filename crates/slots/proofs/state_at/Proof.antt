@@ -16,7 +16,9 @@ shared-slice-read-result : tie.Need-shared-slice-read-result
 shared-slice-read-result c = search needs
 
 returns : tie.Need-returns
-returns c = ap (λ i. getD (now (c .before .before .before .args .work)) i 0) (c .before .offset .ensures)
+returns c =
+    let c3 = c .before .before .before in
+    ap (λ i. getD (now (c3 .args .work)) i 0) (c .before .offset .ensures)
 
 pub state-at-spec : {M : Type 1} → statement M
 state-at-spec = tie.close (tie.spec offset-requires mul-result shared-slice-read-result returns)

@@ -1,7 +1,7 @@
 -- `slots::store_slot` meets its contract: the part put back is the slot's words.
 use Rattle.slots.proofs.Words.{stored-part}
-use Rattle.slots.specs.Threads.{Sized}
-use Rattle.slots.specs.Words.{place}
+use Rattle.slots.specs.inner.Threads.{Sized}
+use Rattle.slots.specs.inner.Words.{place}
 use Prim.Native.Nat.{_+_}
 use mathlib.Core.Path.{refl}
 use native.Mathlib.Omega.{arith}
@@ -40,7 +40,8 @@ returns c =
     let o = c .before .before .before .before .offset .result in
     let q = c .before .before .before .before .offset .ensures in
     let s : Sized (a .t) = record { held-8 = search needs; values-8 = search needs; counters-16 = search needs; trail-32 = search needs } in
-    stored-part (now (a .work)) (c .before .before .store .last .0) (a .t) o (o + 96) (place (a .half) (a .slot)) s q refl (omega (arith, (c .before .before .before .before .before .before .pre))) (c .before .before .store .ensures)
+    stored-part (now (a .work)) (c .before .before .store .last .0) (a .t) o (o + 96) (place (a .half) (a .slot)) s q refl
+    (omega (arith, (c .before .before .before .before .before .before .pre))) (c .before .before .store .ensures)
 
 pub store-slot-spec : {M : Type 1} → statement M
 store-slot-spec =

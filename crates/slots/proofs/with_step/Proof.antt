@@ -25,7 +25,13 @@ element-write-next c = search needs
 returns : tie.Need-returns
 returns c =
     let t = c .before .before .args .t in
-    extended t (c .before .before .args .event) (c .before .before .args .number) (record { held-8 = search needs; values-8 = search needs; counters-16 = search needs; trail-32 = search needs }) (c .before .before .pre .0) (c .before .before .pre .2)
+    extended t (c .before .before .args .event) (c .before .before .args .number) (record {
+      held-8 =
+          search needs;
+      values-8 = search needs;
+      counters-16 = search needs;
+      trail-32 = search needs;
+    }) (c .before .before .pre .0) (c .before .before .pre .2)
 
 pub with-step-spec : {M : Type 1} → statement M
 with-step-spec =

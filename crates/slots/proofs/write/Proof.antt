@@ -42,9 +42,14 @@ loop-less c = search needs
 
 loop-again : tie.Need-loop-again Inv-loop μ-loop
 loop-again c =
-    let a = c .before .before .before .args in
-    let l = c .before .before .loop in
-    (omega arith, length-set (l .part) (a .at + l .i) (getD (now (a .words)) (l .i) 0) ∙ l .inv .1, written-more (now (a .part)) (l .part) (now (a .words)) (a .at) (l .i) (c .before .before .before .pre) (omega arith) (l .inv .2))
+    let c3 = c .before .before .before in
+    let a = c3 .args in
+    let l = c .before .before .loop in (
+      omega arith,
+      length-set (l .part) (a .at + l .i) (getD (now (a .words)) (l .i) 0)
+          ∙ l .inv .1,
+      written-more (now (a .part)) (l .part) (now (a .words)) (a .at) (l .i) (c3 .pre) (omega arith) (l .inv .2),
+    )
 
 same-length : tie.Need-same-length Inv-loop μ-loop
 same-length c = search needs

@@ -72,8 +72,7 @@ add-digits-returns-2 : (t : ℕ) → add-digits-lts.Need-returns-2 (
   add-digits-below t,
   add-digits.Post,
 ) (add-digits-at t) add-digits.Post
-add-digits-returns-2 t c =
-    let p = c .before .before in
+add-digits-returns-2 t c = let p = c .before .before in
     let a = p .before .before .before .before .before .args in
     same-text (one-digit (a .places) (a .n) (p .before .before .if2 .taken) (omega arith)) (omega arith) (p .push .ensures)
 
@@ -115,8 +114,7 @@ add-digits-returns-3 : (t : ℕ) → add-digits-lts.Need-returns-3 (
   add-digits-below t,
   add-digits.Post,
 ) (add-digits-at t) add-digits.Post
-add-digits-returns-3 t c =
-    let p = c .before .before in
+add-digits-returns-3 t c = let p = c .before .before in
     let d = p .before .before .before .before in
     let e = d .before .before in
     let a = e .before .before .before .args in

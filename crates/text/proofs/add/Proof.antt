@@ -4,7 +4,7 @@ use mathlib.Core.Path.{_≡_, refl, _∙_}
 use lib.ListN.{length, take}
 use native.Mathlib.Omega.{arith}
 use Rattle.text.proofs.Growing.{nothing, copy-next, copy-done}
-use Rattle.text.specs.Adds.{Adds}
+use Rattle.text.specs.inner.Adds.{Adds}
 use borrow.Author.Needs.{needs}
 use Rattle.text.proofs.add.Statement.{statement}
 use Rattle.text.proofs.add.Tie as tie
@@ -31,8 +31,7 @@ loop-less : tie.Need-loop-less Inv-loop μ-loop
 loop-less c = search needs
 
 loop-again : tie.Need-loop-again Inv-loop μ-loop
-loop-again c =
-    let p = c .before .before in
+loop-again c = let p = c .before .before in
     let i = p .before .before .before .before .loop in
     let a = p .before .before .before .before .before .before .before .args in
     (omega arith, p .push .kept .1 .0 ∙ i .inv .1, copy-next (a .more .now) (omega arith) (i .inv .2) (p .push .ensures))
@@ -41,7 +40,9 @@ same-length : tie.Need-same-length Inv-loop μ-loop
 same-length c = search needs
 
 returns : tie.Need-returns Inv-loop μ-loop
-returns c = let i = c .before .loop in copy-done (c .before .before .before .before .args .more .now) (omega arith) (i .inv .0) (i .inv .2)
+returns c =
+    let c4 = c .before .before .before .before in
+    let i = c .before .loop in copy-done (c4 .args .more .now) (omega arith) (i .inv .0) (i .inv .2)
 
 pub add-spec : {M : Type 1} → statement M
 add-spec =

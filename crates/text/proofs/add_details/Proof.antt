@@ -33,12 +33,12 @@ same-length : tie.Need-same-length
 same-length c = search needs
 
 returns-2 : tie.Need-returns-2
-returns-2 c =
-    let z = c .before .before in
+returns-2 c = let z = c .before .before in
     let y = z .before .before .before .before in
     let x = y .before .before .before .before in
     let h = x .before .before in
-    same-text (details-text (h .before .before .args .t1) (h .if1 .left)) (omega arith) (behind (behind (x .add-spaced .ensures) (y .add-spaced2 .ensures)) (z .add-variables .ensures))
+    same-text (details-text (h .before .before .args .t1) (h .if1 .left)) (omega arith)
+    (behind (behind (x .add-spaced .ensures) (y .add-spaced2 .ensures)) (z .add-variables .ensures))
 
 pub add-details-spec : {M : Type 1} → statement M
 add-details-spec =

@@ -18,8 +18,7 @@ same-length : tie.Need-same-length
 same-length c = search needs
 
 returns : tie.Need-returns
-returns c =
-    let d = c .before .before in
+returns c = let d = c .before .before in
     let p = d .before .before .before .before in
     let s = p .before .before .before .before in
     let label = s .args .label .now in

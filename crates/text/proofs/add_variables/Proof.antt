@@ -4,7 +4,7 @@ use mathlib.Core.Path.{_≡_, refl, _∙_}
 use lib.ListN.{length, getD}
 use native.Mathlib.Omega.{arith}
 use Rattle.text.proofs.Parts.{none-yet, one-more, held-is, next-bit}
-use Rattle.text.specs.Adds.{Adds}
+use Rattle.text.specs.inner.Adds.{Adds}
 use Rattle.text.specs.Text.{each, held, variables}
 use borrow.Author.Needs.{needs}
 use Rattle.text.proofs.add_variables.Statement.{statement}
@@ -42,8 +42,7 @@ loop-less : tie.Need-loop-less Inv-loop μ-loop
 loop-less c = search needs
 
 loop-again : tie.Need-loop-again Inv-loop μ-loop
-loop-again c =
-    let p = c .before .before in
+loop-again c = let p = c .before .before in
     let i = p .before .before .before .loop in
     let a = p .before .before .before .before .before .args in
     let e = i .inv .2 in (

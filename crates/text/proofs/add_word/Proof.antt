@@ -36,8 +36,7 @@ same-length c = search needs
 
 returns : tie.Need-returns
 unfolding ascii word
-returns c =
-    let p = c .before .before in
+returns c = let p = c .before .before in
     let m = p .before .before .before in
     same-text (known-word (m .before .before .args .verdict) 0 (m .match .keys1)) (omega arith) (p .add .ensures)
 
@@ -46,8 +45,7 @@ same-length-2 c = search needs
 
 returns-2 : tie.Need-returns-2
 unfolding ascii word
-returns-2 c =
-    let p = c .before .before in
+returns-2 c = let p = c .before .before in
     let m = p .before .before .before in
     same-text (known-word (m .before .before .args .verdict) 1 (m .match .keys2)) (omega arith) (p .add2 .ensures)
 
@@ -56,8 +54,7 @@ same-length-3 c = search needs
 
 returns-3 : tie.Need-returns-3
 unfolding ascii word
-returns-3 c =
-    let p = c .before .before in
+returns-3 c = let p = c .before .before in
     let m = p .before .before .before in
     same-text (known-word (m .before .before .args .verdict) 2 (m .match .keys3)) (omega arith) (p .add3 .ensures)
 
@@ -66,8 +63,7 @@ same-length-4 c = search needs
 
 returns-4 : tie.Need-returns-4
 unfolding ascii word
-returns-4 c =
-    let p = c .before .before in
+returns-4 c = let p = c .before .before in
     let m = p .before .before .before in
     let r = m .match .rest in
     same-text (rejected-word (m .before .before .args .verdict) (r .0 .0 .1) (r .0 .1) (r .1)) (omega arith) (p .add4 .ensures)

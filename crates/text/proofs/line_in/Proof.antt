@@ -27,13 +27,13 @@ same-length c = search needs
 
 returns : tie.Need-returns
 unfolding ascii decimal
-returns c =
-    let e = c .before .before in
+returns c = let e = c .before .before in
     let d = e .before .before .before .before in
     let w = d .before .before .before .before in
     let n = w .before .before .before .before in
     let a = n .before .before .before .args in
-    same-text (line-text (a .n) (a .t2)) (omega arith) (behind (behind (behind (n .add-digits .ensures) (w .add-word .ensures)) (d .add-details .ensures)) (e .push .ensures))
+    same-text (line-text (a .n) (a .t2)) (omega arith)
+    (behind (behind (behind (n .add-digits .ensures) (w .add-word .ensures)) (d .add-details .ensures)) (e .push .ensures))
 
 pub line-in-spec : {M : Type 1} → statement M
 line-in-spec =

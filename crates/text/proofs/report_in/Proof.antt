@@ -33,13 +33,13 @@ same-length c = search needs
 
 returns : tie.Need-returns
 unfolding ascii
-returns c =
-    let e = c .before .before in
+returns c = let e = c .before .before in
     let z = e .before .before .before .before in
     let y = z .before .before .before .before .before in
     let x = y .before .before .before .before .before in
     let a = x .before .before .before .before .args in
-    same-text (refused-text (a .t)) (omega arith) (behind (behind (behind (x .add-number .ensures) (y .add-number2 .ensures)) (z .add-number3 .ensures)) (e .push .ensures))
+    same-text (refused-text (a .t)) (omega arith)
+    (behind (behind (behind (x .add-number .ensures) (y .add-number2 .ensures)) (z .add-number3 .ensures)) (e .push .ensures))
 
 pub report-in-spec : {M : Type 1} → statement M
 report-in-spec =

@@ -12,49 +12,77 @@ ends-by-requires c κs = search needs
 
 returns : tie.Need-returns
 returns c =
-    let a = c .before .before .before .before .before .args in
-    λ g fm up s l go ok. better-past g fm (a .best) ok (a .t) (a .n) (a .k) (λ d e. c .before .ends-by .ensures g fm up (a .n) (a .event) s l (c .before .before .before .before .before .pre .1) (a .t) refl (go .fit) d e ∙ not-true _ (c .if1 .taken))
+    let c4 = c .before .before .before .before in
+    let a = c4 .args in
+    λ g fm s go ok.
+    better-past g fm (a .best) ok (a .t) (a .moment .number) (a .k)
+    (λ d e. c .before .ends-by .ensures g fm (a .moment) s (c4 .pre .1) (a .t) refl (go .fit) d e ∙ not-true _ (c .if1 .taken))
 
 moved-requires : tie.Need-moved-requires
 moved-requires c κs = search needs
 
 returns-2 : tie.Need-returns-2
 returns-2 c =
-    let a = c .before .before .before .before .before .before .before .before .before .args in
-    λ g fm up s l go ok. better-silent g fm (a .best) ok (a .t) (a .n) (a .k) (c .before .before .before .moved .result) (c .before .before .before .moved .ensures g fm _ up s l go) (not-true _ (c .if2 .taken))
+    let c3 = c .before .before .before in
+    let c8 = c3 .before .before .before .before .before in
+    let a = c8 .args in
+    let m = c3 .moved in
+    λ g fm s go ok. better-silent g fm (a .best) ok (a .t) (a .moment .number) (a .k) (m .result) (m .ensures g fm (a .rules) s go) (not-true _ (c .if2 .taken))
 
 later-requires : tie.Need-later-requires
 later-requires c κs = search needs
 
 returns-3 : tie.Need-returns-3
 returns-3 c =
-    let a = c .before .before .before .before .before .before .before .before .before .before .before .before .before .args in
-    let m = c .before .before .before .before .before .before .before .moved .result in
-    let fires = not-false _ (c .before .before .before .before .if2 .left) in
-    λ g fm up s l go ok.
-    let h = c .before .before .before .before .before .before .before .moved .ensures g fm _ up s l go in
-    let ends = move-final g fm (a .t) (a .n) (a .k) m h fires (λ d e. c .before .before .before .before .before .before .before .before .before .ends-by .ensures g fm up (a .n) (a .event) s l (c .before .before .before .before .before .before .before .before .before .before .before .before .before .pre .1) (a .t) refl (go .fit) d e ∙ not-false _ (c .before .before .before .before .before .before .before .before .if1 .left)) in
-    better-kept g fm (a .best) ok (a .t) (a .n) (a .k) m h fires ends (c .before .before .before .if3 .taken) (sym (c .before .later .ensures) ∙ not-true _ (c .if4 .taken))
+    let c3 = c .before .before .before in
+    let c4 = c3 .before in
+    let c7 = c4 .before .before .before in
+    let c8 = c7 .before in
+    let c9 = c8 .before in
+    let c12 = c9 .before .before .before in
+    let a = c12 .args in
+    let n = a .moment .number in
+    let m = c7 .moved .result in
+    let fires = not-false _ (c4 .if2 .left) in
+    λ g fm s go ok.
+    let h = c7 .moved .ensures g fm (a .rules) s go in
+    let ends = move-final g fm (a .t) n (a .k) m h fires
+    (λ d e. c9 .ends-by .ensures g fm (a .moment) s (c12 .pre .1) (a .t) refl (go .fit) d e ∙ not-false _ (c8 .if1 .left)) in
+    better-kept g fm (a .best) ok (a .t) n (a .k) m h fires ends (c3 .if3 .taken) (sym (c .before .later .ensures) ∙ not-true _ (c .if4 .taken))
 
 returns-4 : tie.Need-returns-4
 returns-4 c =
-    let a = c .before .before .before .before .before .before .before .before .before .before .before .before .before .args in
-    let m = c .before .before .before .before .before .before .before .moved .result in
-    let fires = not-false _ (c .before .before .before .before .if2 .left) in
-    λ g fm up s l go ok.
-    let h = c .before .before .before .before .before .before .before .moved .ensures g fm _ up s l go in
-    let ends = move-final g fm (a .t) (a .n) (a .k) m h fires (λ d e. c .before .before .before .before .before .before .before .before .before .ends-by .ensures g fm up (a .n) (a .event) s l (c .before .before .before .before .before .before .before .before .before .before .before .before .before .pre .1) (a .t) refl (go .fit) d e ∙ not-false _ (c .before .before .before .before .before .before .before .before .if1 .left)) in
-    better-earlier g fm (a .best) ok (a .t) (a .n) (a .k) m h fires ends (c .before .before .before .if3 .taken) (sym (c .before .later .ensures) ∙ not-false _ (c .if4 .left))
+    let c3 = c .before .before .before in
+    let c4 = c3 .before in
+    let c7 = c4 .before .before .before in
+    let c8 = c7 .before in
+    let c9 = c8 .before in
+    let c12 = c9 .before .before .before in
+    let a = c12 .args in
+    let n = a .moment .number in
+    let m = c7 .moved .result in
+    let fires = not-false _ (c4 .if2 .left) in
+    λ g fm s go ok.
+    let h = c7 .moved .ensures g fm (a .rules) s go in
+    let ends = move-final g fm (a .t) n (a .k) m h fires
+    (λ d e. c9 .ends-by .ensures g fm (a .moment) s (c12 .pre .1) (a .t) refl (go .fit) d e ∙ not-false _ (c8 .if1 .left)) in
+    better-earlier g fm (a .best) ok (a .t) n (a .k) m h fires ends (c3 .if3 .taken) (sym (c .before .later .ensures) ∙ not-false _ (c .if4 .left))
 
 returns-5 : tie.Need-returns-5
 returns-5 c =
-    let a = c .before .before .before .before .before .before .before .before .before .before .args in
-    let m = c .before .before .before .before .moved .result in
+    let c4 = c .before .before .before .before in
+    let c5 = c4 .before in
+    let c6 = c5 .before in
+    let c9 = c6 .before .before .before in
+    let a = c9 .args in
+    let n = a .moment .number in
+    let m = c4 .moved .result in
     let fires = not-false _ (c .before .if2 .left) in
-    λ g fm up s l go ok.
-    let h = c .before .before .before .before .moved .ensures g fm _ up s l go in
-    let ends = move-final g fm (a .t) (a .n) (a .k) m h fires (λ d e. c .before .before .before .before .before .before .ends-by .ensures g fm up (a .n) (a .event) s l (c .before .before .before .before .before .before .before .before .before .before .pre .1) (a .t) refl (go .fit) d e ∙ not-false _ (c .before .before .before .before .before .if1 .left)) in
-    better-first g fm (a .best) ok (a .t) (a .n) (a .k) m h fires ends (c .if3 .left)
+    λ g fm s go ok.
+    let h = c4 .moved .ensures g fm (a .rules) s go in
+    let ends = move-final g fm (a .t) n (a .k) m h fires
+    (λ d e. c6 .ends-by .ensures g fm (a .moment) s (c9 .pre .1) (a .t) refl (go .fit) d e ∙ not-false _ (c5 .if1 .left)) in
+    better-first g fm (a .best) ok (a .t) n (a .k) m h fires ends (c .if3 .left)
 
 pub better-spec : {M : Type 1} → statement M
 better-spec =

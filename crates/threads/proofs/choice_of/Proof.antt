@@ -2,8 +2,8 @@
 use mathlib.Core.Path.{sym, _∙_, subst}
 use native.Mathlib.Omega.{arith}
 use borrow.Author.Needs.{needs}
-use Rattle.threads.specs.Calls.{Lowest}
-use Rattle.threads.specs.Setting.{conf}
+use Rattle.machine_code.specs.inner.Bytes.{configOf}
+use Rattle.threads.specs.inner.Calls.{Lowest}
 use Rattle.threads.proofs.Choices.{ordinary-choice, quiet-choice, lowest-choice}
 use Rattle.threads.proofs.Words.{committed-word}
 use Rattle.threads.proofs.choice_of.Statement.{statement}
@@ -20,18 +20,38 @@ add-t10 c = search needs
 
 returns : tie.Need-returns
 returns c =
-    let a = c .before .before .before .before .before .before .before .before .args in
-    (omega (arith, c .before .lowest-at .ensures .0), λ g fm up n s l h. lowest-choice g fm (a .t) n h (c .before .lowest-at .result) (sym (committed-word g fm _ _ _ up (s .setting) (a .t) h) ∙ sym (c .before .before .before .is-committed .ensures) ∙ c .before .before .if1 .taken) (c .if2 .taken) (c .before .lowest-at .ensures .1 g fm _ up n s l h))
+    let c3 = c .before .before .before in
+    let c7 = c3 .before .before .before .before in
+    let a = c7 .args in
+    let x = c .before .lowest-at in (
+      omega (arith, x .ensures .0),
+      λ g fm s h.
+          let e = sym (committed-word g fm _ _ (a .rules) (s .setting) (a .t) h) ∙ sym (c3 .is-committed .ensures) ∙ c .before .before .if1 .taken in
+          lowest-choice g fm (a .t) (a .moment .number) h (x .result) e (c .if2 .taken) (x .ensures .1 g fm (a .rules) s h),
+    )
 
 returns-2 : tie.Need-returns-2
 returns-2 c =
-    let a = c .before .before .before .before .before .before .before .before .args in
-    (omega (arith, c .before .lowest-at .ensures .0), λ g fm up n s l h. quiet-choice g fm (a .t) n h (sym (committed-word g fm _ _ _ up (s .setting) (a .t) h) ∙ sym (c .before .before .before .is-committed .ensures) ∙ c .before .before .if1 .taken) (subst (Lowest g fm (conf (a .t)) n) (omega (arith, c .before .lowest-at .ensures .0, c .if2 .left)) (c .before .lowest-at .ensures .1 g fm _ up n s l h)))
+    let c3 = c .before .before .before in
+    let c7 = c3 .before .before .before .before in
+    let a = c7 .args in
+    let x = c .before .lowest-at in (
+      omega (arith, x .ensures .0),
+      λ g fm s h.
+          let e = sym (committed-word g fm _ _ (a .rules) (s .setting) (a .t) h) ∙ sym (c3 .is-committed .ensures) ∙ c .before .before .if1 .taken in
+          let n = a .moment .number in
+          quiet-choice g fm (a .t) n h e
+          (subst (Lowest g fm (configOf (a .t .config)) n) (omega (arith, x .ensures .0, c .if2 .left)) (x .ensures .1 g fm (a .rules) s h)),
+    )
 
 returns-3 : tie.Need-returns-3
 returns-3 c =
-    let a = c .before .before .before .before .before .before .args in
-    (omega arith, λ g fm up n s l h. ordinary-choice g fm (a .t) n h (sym (committed-word g fm _ _ _ up (s .setting) (a .t) h) ∙ sym (c .before .is-committed .ensures) ∙ c .if1 .left))
+    let c5 = c .before .before .before .before .before in
+    let a = c5 .args in (
+      omega arith,
+      λ g fm s h. ordinary-choice g fm (a .t) (a .moment .number) h
+          (sym (committed-word g fm _ _ (a .rules) (s .setting) (a .t) h) ∙ sym (c .before .is-committed .ensures) ∙ c .if1 .left),
+    )
 
 pub choice-of-spec : {M : Type 1} → statement M
 choice-of-spec =

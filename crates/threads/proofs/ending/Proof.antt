@@ -1,38 +1,40 @@
 -- The least over the threads that wait: what those left make of the best so far is the whole.
 use Prim.Native.Nat.{_-_, _≤_}
 use mathlib.Core.Path.{_≡_, refl}
-use mathlib.Core.List.{List}
-use mathlib.Core.Bool.{Bool, false≢true}
+use mathlib.Core.Bool.{false≢true}
 use native.Mathlib.Omega.{arith}
 use lib.ListN.{drop}
 use denote.Ref.{now}
 use borrow.Author.Needs.{needs}
 use Rattle.event_log.specs.Log.{Log}
 use Rattle.formula.specs.Formula.{Formula}
-use Rattle.runs.specs.Search as Runs
+use Rattle.runs.specs.inner.Search as Runs
 use Rattle.machine.specs.Machine.{machine}
-use Rattle.threads.specs.Calls.{BestFits}
-use Rattle.threads.specs.Event.{bestOf, waitingIn, Kept}
-use Rattle.threads.specs.Setting.{Scene, Loads}
+use Rattle.threads.specs.inner.Calls.{BestFits}
+use Rattle.threads.specs.inner.Event.{bestOf, waitingIn, Kept}
+use Rattle.threads.specs.inner.Setting.{Scene}
 use Rattle.threads.proofs.Endings.{ending-next, ending-done}
 use Rattle.threads.proofs.Listed.{kept-at}
 use Rattle.threads.proofs.ending.Statement.{statement}
 use Rattle.threads.proofs.ending.Tie as tie
 
 abbrev Inv-loop : tie.InvT-loop
-Inv-loop work half count f table kinds n event best₀ j₀ best j =
-    (j ≤ count)
-    × ((g : Log) (fm : Formula) (up : List Bool) → Scene g fm f table kinds up event → Loads g n event → Kept fm half count work
-    → (Runs.least (machine g fm) (Runs.endings (machine g fm) n (waitingIn g fm half count work))
-    ≡ Runs.leastFrom (machine g fm) (bestOf g fm best) (Runs.endings (machine g fm) n (drop j (waitingIn g fm half count work))))
+Inv-loop work seats f table rules m best₀ j₀ best j =
+    (j ≤ seats .count)
+    × ((g : Log) (fm : Formula) → Scene g fm f table rules m → Kept fm (seats .half) (seats .count) work
+    → (Runs.least (machine g fm) (Runs.endings (machine g fm) (m .number) (waitingIn g fm (seats .half) (seats .count) work))
+    ≡ Runs.leastFrom (machine g fm) (bestOf g fm best) (Runs.endings (machine g fm) (m .number) (drop j (waitingIn g fm (seats .half) (seats .count) work))))
     × BestFits fm best)
 
 abbrev μ-loop : tie.MeasureT-loop
-μ-loop work half count f table kinds n event best₀ j₀ best j = count - j
+μ-loop work seats f table rules m best₀ j₀ best j = seats .count - j
+
+origin-requires : tie.Need-origin-requires Inv-loop μ-loop
+origin-requires c κs = search needs
 
 loop-holds : tie.Need-loop-holds Inv-loop μ-loop
 unfolding Runs.least
-loop-holds c = (omega arith, λ g fm up s l k. (refl, λ q. absurd (false≢true q)))
+loop-holds c = (omega arith, λ g fm s k. (refl, λ q. absurd (false≢true q)))
 
 load-slot-requires : tie.Need-load-slot-requires Inv-loop μ-loop
 load-slot-requires c κs = omega arith
@@ -48,25 +50,32 @@ loop-less c = omega arith
 
 loop-again : tie.Need-loop-again Inv-loop μ-loop
 loop-again c =
-    let a = c .before .before .before .before .before .before .before .before .args in
+    let c4 = c .before .before .before .before in
+    let c9 = c4 .before .before .before .before .before in
+    let a = c9 .args in
     let w = now (a .work) in
+    let z = a .seats in
+    let l = c4 .loop in
     let t = c .before .load-slot .result in
     let e = c .before .load-slot .ensures in
-    let h = c .before .before .loop-test .taken in (
+    let h = c .before .before .if1 .taken in (
       omega arith,
-      λ g fm up s l k.
-          let v = c .before .before .before .loop .inv .1 g fm up s l k in
-          let i = c .ending-of .ensures g fm up s l (kept-at fm (a .half) (a .count) w (c .before .before .before .loop .j) t k h e) (v .1) in
-          (ending-next g fm (a .n) (a .half) (a .count) w (c .before .before .before .loop .j) _ (c .before .before .before .loop .best) (v .0) t (c .ending-of .result) h e i, i .fits),
+      λ g fm s k.
+          let v = l .inv .1 g fm s k in
+          let i = c .ending-of .ensures g fm s (kept-at fm (z .half) (z .count) w (l .j) t k h e) (v .1) in
+          (ending-next g fm (a .moment .number) (z .half) (z .count) w (l .j) _ (l .best) (v .0) t (c .ending-of .result) h e i, i .fits),
     )
 
 returns : tie.Need-returns Inv-loop μ-loop
 returns c =
-    let a = c .before .before .before .before .before .before .args in
+    let c7 = c .before .before .before .before .before .before .before in
+    let a = c7 .args in
     let w = now (a .work) in
-    λ g fm s l k.
-    let v = c .before .loop .inv .1 g fm (a .up) s l k in
-    (ending-done g fm (a .n) (a .half) (a .count) w (c .before .loop .j) _ (c .before .loop .best) (v .0) (c .loop-test .left), v .1)
+    let z = a .seats in
+    let l = c .before .before .loop in
+    λ g fm s k.
+    let v = l .inv .1 g fm s k in
+    (ending-done g fm (a .moment .number) (z .half) (z .count) w (l .j) _ (l .best) (v .0) (c .if1 .left), v .1)
 
 pub ending-spec : {M : Type 1} → statement M
 ending-spec =
@@ -74,6 +83,7 @@ ending-spec =
     (tie.spec
     Inv-loop
     μ-loop
+    origin-requires
     loop-holds
     load-slot-requires
     ending-of-requires

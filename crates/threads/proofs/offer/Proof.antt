@@ -1,8 +1,8 @@
 -- A thread that has not ended, in at most 31 steps, waits where some step is not expired.
-use mathlib.Core.Path.{sym, _∙_}
+use mathlib.Core.Path.{refl, sym, _∙_}
 use denote.Ref.{now}
 use borrow.Author.Needs.{needs}
-use Rattle.threads.specs.Event.{waitingIn}
+use Rattle.threads.specs.inner.Event.{waitingIn}
 use Rattle.threads.proofs.Waiting.{grown-same, within-none, within-as, offered-final, offered-long, offered-open}
 use Rattle.threads.proofs.Words.{final-word}
 use Rattle.threads.proofs.offer.Statement.{statement}
@@ -13,18 +13,26 @@ is-final-requires c κs = search needs
 
 returns : tie.Need-returns
 returns c =
-    let a = c .before .before .before .before .before .before .args in
-    let w = now (a .work) in (
-      grown-same (a .half) (a .slots) (a .count) w (c .before .before .before .before .before .before .pre .2),
-      λ n g fm s l k h. within-none g fm (a .half) (a .slots) (a .count) w _ (offered-final g fm n (a .b) h (sym (final-word g fm _ _ _ _ (s .setting) (a .b) h) ∙ sym (c .before .is-final .ensures) ∙ c .if1 .taken)) (c .before .before .before .before .before .before .pre .2) k,
+    let c5 = c .before .before .before .before .before in
+    let a = c5 .args in
+    let w = now (a .work) in
+    let z = a .seats in
+    let p = c5 .pre in (
+      grown-same (z .half) (z .slots) (z .count) w (p .2),
+      λ g fm s k h.
+          let e = sym (final-word g fm _ _ (a .rules) (s .setting) (a .b) h) ∙ sym (c .before .is-final .ensures) ∙ c .if1 .taken in
+          within-none g fm (z .half) (z .slots) (z .count) w _ (offered-final g fm (a .moment .number) (a .b) h e) (p .2) k,
     )
 
 returns-2 : tie.Need-returns-2
 returns-2 c =
-    let a = c .before .before .before .before .before .before .before .before .args in
-    let w = now (a .work) in (
-      grown-same (a .half) (a .slots) (a .count) w (c .before .before .before .before .before .before .before .before .pre .2),
-      λ n g fm s l k h. within-none g fm (a .half) (a .slots) (a .count) w _ (offered-long g fm n (a .b) h (c .if2 .taken)) (c .before .before .before .before .before .before .before .before .pre .2) k,
+    let c7 = c .before .before .before .before .before .before .before in
+    let a = c7 .args in
+    let w = now (a .work) in
+    let z = a .seats in
+    let p = c7 .pre in (
+      grown-same (z .half) (z .slots) (z .count) w (p .2),
+      λ g fm s k h. within-none g fm (z .half) (z .slots) (z .count) w _ (offered-long g fm (a .moment .number) (a .b) h (c .if2 .taken)) (p .2) k,
     )
 
 wait-requires : tie.Need-wait-requires
@@ -35,10 +43,20 @@ same-length c = search needs
 
 returns-3 : tie.Need-returns-3
 returns-3 c =
-    let a = c .before .before .before .before .before .before .before .before .before .before .before .before .args in
-    let w = now (a .work) in (
-      c .before .before .wait .ensures .0,
-      λ n g fm s l k h. within-as g fm (a .half) (a .slots) (waitingIn g fm (a .half) (a .count) w) _ _ (c .before .before .wait .last .0) (c .before .before .wait .result) (offered-open g fm n (a .b) h (sym (final-word g fm _ _ _ _ (s .setting) (a .b) h) ∙ sym (c .before .before .before .before .before .before .before .is-final .ensures) ∙ c .before .before .before .before .before .before .if1 .left) (c .before .before .before .before .if2 .left)) (c .before .before .wait .ensures .1 _ n g fm s l k (record { fit = h; short = c .before .before .before .before .if2 .left })),
+    let c5 = c .before .before .before .before .before in
+    let c7 = c5 .before .before in
+    let c8 = c7 .before in
+    let c12 = c8 .before .before .before .before in
+    let a = c12 .args in
+    let w = now (a .work) in
+    let z = a .seats in
+    let x = c .before .before .wait in (
+      x .ensures .0,
+      λ g fm s k h.
+          let e = sym (final-word g fm _ _ (a .rules) (s .setting) (a .b) h) ∙ sym (c8 .is-final .ensures) ∙ c7 .if1 .left in
+          let o = offered-open g fm (a .moment .number) (a .b) h e (c5 .if2 .left) in
+          within-as g fm (z .half) (z .slots) (waitingIn g fm (z .half) (z .count) w) _ _ (x .last .0) (x .result) o
+          (x .ensures .1 (a .rules) (a .moment) refl refl g fm s k (record { fit = h; short = c5 .if2 .left })),
     )
 
 pub offer-spec : {M : Type 1} → statement M

@@ -1,9 +1,9 @@
 -- What a step leaves is offered; a step that ends runs or does not fire leaves nothing.
 use mathlib.Core.Path.{refl, ap, _∙_}
 use denote.Ref.{now}
-use Rattle.runs.specs.Lists.{keep}
-use Rattle.threads.specs.Event.{waitingIn}
-use Rattle.threads.specs.Calls.{offered}
+use Rattle.runs.specs.inner.Lists.{keep}
+use Rattle.threads.specs.inner.Event.{waitingIn}
+use Rattle.threads.specs.inner.Calls.{offered}
 use Rattle.threads.proofs.Waiting.{grown-same, within-none, within-as, move-silent, move-fires, offered-past}
 use borrow.Author.Needs.{needs}
 use Rattle.threads.proofs.offer_move.Statement.{statement}
@@ -14,10 +14,16 @@ ends-by-requires c κs = search needs
 
 returns : tie.Need-returns
 returns c =
-    let a = c .before .before .before .before .before .before .args in
-    let w = now (a .work) in (
-      grown-same (a .half) (a .slots) (a .count) w (c .before .before .before .before .before .before .pre .2),
-      λ g fm s l k go. within-none g fm (a .half) (a .slots) (a .count) w _ (offered-past g fm (a .t) (a .n) (a .k) (λ d e. c .before .ends-by .ensures g fm _ (a .n) (a .event) s l (c .before .before .before .before .before .before .pre .4) (a .t) refl (go .fit) d e ∙ c .if1 .taken)) (c .before .before .before .before .before .before .pre .2) k,
+    let c5 = c .before .before .before .before .before in
+    let a = c5 .args in
+    let w = now (a .work) in
+    let z = a .seats in
+    let p = c5 .pre in (
+      grown-same (z .half) (z .slots) (z .count) w (p .0 .2),
+      λ g fm s k go.
+          let e = offered-past g fm (a .t) (a .moment .number) (a .k)
+          (λ d e. c .before .ends-by .ensures g fm (a .moment) s (p .2) (a .t) refl (go .fit) d e ∙ c .if1 .taken) in
+          within-none g fm (z .half) (z .slots) (z .count) w _ e (p .0 .2) k,
     )
 
 moved-requires : tie.Need-moved-requires
@@ -31,23 +37,36 @@ same-length c = search needs
 
 returns-2 : tie.Need-returns-2
 returns-2 c =
-    let a = c .before .before .before .before .before .before .before .before .before .before .before .before .before .args in
+    let c4 = c .before .before .before .before in
+    let c6 = c4 .before .before in
+    let c12 = c6 .before .before .before .before .before .before in
+    let a = c12 .args in
     let w = now (a .work) in
-    let m = c .before .before .before .before .before .before .moved .result in (
-      c .before .before .offer .ensures .0,
-      λ g fm s l k go.
-          let f = move-fires g fm (a .t) (a .n) (a .k) m (c .before .before .before .before .before .before .moved .ensures g fm _ _ s l go) (c .before .before .before .before .if2 .taken) in
-          within-as g fm (a .half) (a .slots) (waitingIn g fm (a .half) (a .count) w) _ _ (c .before .before .offer .last .0) (c .before .before .offer .result) (ap (offered g fm (a .n)) (f .0)) (c .before .before .offer .ensures .1 (a .n) g fm s l k (f .1)),
+    let z = a .seats in
+    let n = a .moment .number in
+    let m = c6 .moved in
+    let x = c .before .before .offer in (
+      x .ensures .0,
+      λ g fm s k go.
+          let f = move-fires g fm (a .t) n (a .k) (m .result) (m .ensures g fm (a .rules) s go) (c4 .if2 .taken) in
+          within-as g fm (z .half) (z .slots) (waitingIn g fm (z .half) (z .count) w) _ _ (x .last .0) (x .result) (ap (offered g fm n) (f .0))
+          (x .ensures .1 g fm s k (f .1)),
     )
 
 returns-3 : tie.Need-returns-3
 unfolding keep
 returns-3 c =
-    let a = c .before .before .before .before .before .before .before .before .before .args in
+    let c8 = c .before .before .before .before .before .before .before .before in
+    let a = c8 .args in
     let w = now (a .work) in
-    let m = c .before .before .moved .result in (
-      grown-same (a .half) (a .slots) (a .count) w (c .before .before .before .before .before .before .before .before .before .pre .2),
-      λ g fm s l k go. within-none g fm (a .half) (a .slots) (a .count) w _ (ap (offered g fm (a .n)) (move-silent g fm (a .t) (a .n) (a .k) m (c .before .before .moved .ensures g fm _ _ s l go) (c .if2 .left))) (c .before .before .before .before .before .before .before .before .before .pre .2) k,
+    let z = a .seats in
+    let n = a .moment .number in
+    let m = c .before .before .moved in
+    let p = c8 .pre in (
+      grown-same (z .half) (z .slots) (z .count) w (p .0 .2),
+      λ g fm s k go.
+          let e = move-silent g fm (a .t) n (a .k) (m .result) (m .ensures g fm (a .rules) s go) (c .if2 .left) in
+          within-none g fm (z .half) (z .slots) (z .count) w _ (ap (offered g fm n) e) (p .0 .2) k,
     )
 
 pub offer-move-spec : {M : Type 1} → statement M

@@ -1,54 +1,74 @@
 -- The moves one by one: what is left to insert gives the whole, and the words of the other half stay.
-use Prim.Native.Nat.{_-_, _+_, _≤_}
+use Prim.Native.Nat.{ℕ, _-_, _+_, _≤_}
+use mathlib.Core.List.{List}
 use mathlib.Core.Path.{refl, _∙_}
 use native.Mathlib.Omega.{arith}
 use denote.Ref.{now}
 use Rattle.event_log.specs.Log.{Log}
 use Rattle.formula.specs.Formula.{Formula}
-use Rattle.runs.specs.Threads.{insertWithin}
-use Rattle.runs.specs.Search as Runs
+use Rattle.runs.specs.inner.Threads.{insertWithin}
+use Rattle.runs.specs.inner.Search as Runs
 use Rattle.machine.specs.Machine.{machine}
-use Rattle.threads.specs.Calls.{Going, Grown, offered, moveBy}
-use Rattle.threads.specs.Event.{waitingIn, Kept}
-use Rattle.threads.specs.Setting.{Scene, Loads, thread}
+use Rattle.threads.specs.inner.Calls.{Going, Grown, offered, moveBy}
+use Rattle.threads.specs.inner.Event.{waitingIn, Kept}
+use Rattle.threads.specs.inner.Setting.{Scene, thread}
 use Rattle.threads.proofs.Waiting.{Left, left-next, left-stopped, left-none, left-as, offers-next, offers-done, grown-same, grown-then}
 use Rattle.threads.proofs.offer_moves.Statement.{statement}
 use Rattle.threads.proofs.offer_moves.Tie as tie
 
 abbrev Inv-loop : tie.InvT-loop
-Inv-loop work₀ half count slots f table kinds up n event t choice len₀ k₀ work len k =
-    (len ≤ slots) × Grown half slots work₀ work len
-    × ((g : Log) (fm : Formula) → Scene g fm f table kinds up event → Loads g n event → Kept fm half count work₀ → Going fm t
-    → Left g fm half slots (insertWithin (machine g fm) slots (waitingIn g fm half count work₀) (offered g fm n (Runs.firing (machine g fm) (thread g fm t) n (choice .from) (choice .to - choice .from)))) (offered g fm n (Runs.firing (machine g fm) (thread g fm t) n k (choice .to - k))) work len)
+Inv-loop work₀ seats f table rules m t choice count₀ k₀ work count k =
+    (count ≤ seats .slots) × Grown (seats .half) (seats .slots) work₀ work count
+    × ((g : Log) (fm : Formula) → Scene g fm f table rules m → Kept fm (seats .half) (seats .count) work₀ → Going fm t
+    → Left g fm (seats .half) (seats .slots)
+    (insertWithin (machine g fm) (seats .slots) (waitingIn g fm (seats .half) (seats .count) work₀)
+    (offered g fm (m .number) (Runs.firing (machine g fm) (thread g fm t) (m .number) (choice .from) (choice .to - choice .from))))
+    (offered g fm (m .number) (Runs.firing (machine g fm) (thread g fm t) (m .number) k (choice .to - k))) work count)
 
 abbrev μ-loop : tie.MeasureT-loop
-μ-loop work₀ half count slots f table kinds up n event t choice len₀ k₀ work len k = choice .to - k
+μ-loop work₀ seats f table rules m t choice count₀ k₀ work count k = choice .to - k
 
 loop-holds : tie.Need-loop-holds Inv-loop μ-loop
 loop-holds c =
-    let a = c .before .before .before .before .args in
-    let w = now (a .work) in
-    (c .before .before .before .before .pre .2, grown-same (a .half) (a .slots) (a .count) w (c .before .before .before .before .pre .2), λ g fm s l k go. record { is = refl; kept = k })
+    let c3 = c .before .before .before in
+    let a = c3 .args in
+    let z = a .seats in
+    let h = c3 .pre .0 .2 in
+    (h, grown-same (z .half) (z .slots) (z .count) (now (a .work)) h, λ g fm s k go. record { is = refl; kept = k })
 
 offer-move-requires : tie.Need-offer-move-requires Inv-loop μ-loop
-offer-move-requires c κs = omega (arith, c .before .before .before .loop .inv .1 .sized)
+offer-move-requires c κs =
+    let c3 = c .before .before .before in
+    let c7 = c3 .before .before .before .before in
+    omega (arith, c3 .loop .inv .1 .sized, c3 .loop .inv .0, c7 .pre, c .before .if1 .taken)
 
 same-length : tie.Need-same-length Inv-loop μ-loop
-same-length c = c .before .before .before .offer-move .ensures .0 .sized ∙ c .before .before .before .before .before .before .before .loop .inv .1 .sized
+same-length c =
+    let c4 = c .before .before .before .before in
+    let c8 = c4 .before .before .before .before in
+    c4 .offer-move .ensures .0 .sized ∙ c8 .loop .inv .1 .sized
 
 returns : tie.Need-returns Inv-loop μ-loop
 returns c =
-    let a = c .before .before .before .before .before .before .before .before .before .before .before .before .args in
-    let w = now (a .work) in (
-      grown-then (a .half) (a .slots) w (c .before .before .before .before .before .before .before .loop .work) (c .before .before .before .offer-move .last .0) (c .before .before .before .before .before .before .before .loop .len) (c .before .before .before .offer-move .result) (c .before .before .before .before .before .before .before .loop .inv .1) (c .before .before .before .offer-move .ensures .0),
-      λ g fm s l k go.
-          let v = c .before .before .before .before .before .before .before .loop .inv .2 g fm s l k go in
-          let xs = offered g fm (a .n) (moveBy g fm (a .t) (a .n) (c .before .before .before .before .before .before .before .loop .k)) in
-          let ys = offered g fm (a .n) (Runs.firing (machine g fm) (thread g fm (a .t)) (a .n) (c .before .before .before .before .before .before .before .loop .k + 1) (a .choice .to - (c .before .before .before .before .before .before .before .loop .k + 1))) in
-          let whole = insertWithin (machine g fm) (a .slots) (waitingIn g fm (a .half) (a .count) w) (offered g fm (a .n) (Runs.firing (machine g fm) (thread g fm (a .t)) (a .n) (a .choice .from) (a .choice .to - a .choice .from))) in
-          let u = left-as g fm (a .half) (a .slots) whole _ _ (c .before .before .before .before .before .before .before .loop .work) (c .before .before .before .before .before .before .before .loop .len) (offers-next g fm (a .t) (a .n) (c .before .before .before .before .before .before .before .loop .k) (a .choice .to) (c .before .before .before .before .before .if1 .taken)) v in
-          let o = c .before .before .before .offer-move .ensures .1 g fm s l (v .kept) go in
-          left-stopped g fm (a .half) (a .slots) whole xs ys (c .before .before .before .before .before .before .before .loop .work) (c .before .before .before .offer-move .last .0) (c .before .before .before .before .before .before .before .loop .len) (c .before .before .before .offer-move .result) u o (c .if2 .taken),
+    let c4 = c .before .before .before .before in
+    let c6 = c4 .before .before in
+    let c8 = c6 .before .before in
+    let c12 = c8 .before .before .before .before in
+    let a = c12 .args in
+    let w = now (a .work) in
+    let z = a .seats in
+    let n = a .moment .number in
+    let l = c8 .loop in
+    let x = c4 .offer-move in (
+      grown-then (z .half) (z .slots) w (l .work) (x .last .0) (l .count) (x .result) (l .inv .1) (x .ensures .0),
+      λ g fm s k go.
+          let firing : ℕ → List (Runs.Thread (machine g fm)) = λ i. offered g fm n (Runs.firing (machine g fm) (thread g fm (a .t)) n i (a .choice .to - i)) in
+          let v = l .inv .2 g fm s k go in
+          let xs = offered g fm n (moveBy g fm (a .t) n (l .k)) in
+          let whole = insertWithin (machine g fm) (z .slots) (waitingIn g fm (z .half) (z .count) w) (firing (a .choice .from)) in
+          let u = left-as g fm (z .half) (z .slots) whole _ _ (l .work) (l .count) (offers-next g fm (a .t) n (l .k) (a .choice .to) (c6 .if1 .taken)) v in
+          let o = x .ensures .1 g fm s (v .kept) go in
+          left-stopped g fm (z .half) (z .slots) whole xs (firing (l .k + 1)) (l .work) (x .last .0) (l .count) (x .result) u o (c .if2 .taken),
     )
 
 add-k : tie.Need-add-k Inv-loop μ-loop
@@ -59,18 +79,26 @@ loop-less c = omega arith
 
 loop-again : tie.Need-loop-again Inv-loop μ-loop
 loop-again c =
-    let a = c .before .before .before .before .before .before .before .before .before .before .before .before .args in
-    let w = now (a .work) in (
+    let c4 = c .before .before .before .before in
+    let c6 = c4 .before .before in
+    let c8 = c6 .before .before in
+    let c12 = c8 .before .before .before .before in
+    let a = c12 .args in
+    let w = now (a .work) in
+    let z = a .seats in
+    let n = a .moment .number in
+    let l = c8 .loop in
+    let x = c4 .offer-move in (
       c .if2 .left,
-      grown-then (a .half) (a .slots) w (c .before .before .before .before .before .before .before .loop .work) (c .before .before .before .offer-move .last .0) (c .before .before .before .before .before .before .before .loop .len) (c .before .before .before .offer-move .result) (c .before .before .before .before .before .before .before .loop .inv .1) (c .before .before .before .offer-move .ensures .0),
-      λ g fm s l k go.
-          let v = c .before .before .before .before .before .before .before .loop .inv .2 g fm s l k go in
-          let xs = offered g fm (a .n) (moveBy g fm (a .t) (a .n) (c .before .before .before .before .before .before .before .loop .k)) in
-          let ys = offered g fm (a .n) (Runs.firing (machine g fm) (thread g fm (a .t)) (a .n) (c .before .before .before .before .before .before .before .loop .k + 1) (a .choice .to - (c .before .before .before .before .before .before .before .loop .k + 1))) in
-          let whole = insertWithin (machine g fm) (a .slots) (waitingIn g fm (a .half) (a .count) w) (offered g fm (a .n) (Runs.firing (machine g fm) (thread g fm (a .t)) (a .n) (a .choice .from) (a .choice .to - a .choice .from))) in
-          let u = left-as g fm (a .half) (a .slots) whole _ _ (c .before .before .before .before .before .before .before .loop .work) (c .before .before .before .before .before .before .before .loop .len) (offers-next g fm (a .t) (a .n) (c .before .before .before .before .before .before .before .loop .k) (a .choice .to) (c .before .before .before .before .before .if1 .taken)) v in
-          let o = c .before .before .before .offer-move .ensures .1 g fm s l (v .kept) go in
-          left-next g fm (a .half) (a .slots) whole xs ys (c .before .before .before .before .before .before .before .loop .work) (c .before .before .before .offer-move .last .0) (c .before .before .before .before .before .before .before .loop .len) (c .before .before .before .offer-move .result) u o (c .if2 .left),
+      grown-then (z .half) (z .slots) w (l .work) (x .last .0) (l .count) (x .result) (l .inv .1) (x .ensures .0),
+      λ g fm s k go.
+          let firing : ℕ → List (Runs.Thread (machine g fm)) = λ i. offered g fm n (Runs.firing (machine g fm) (thread g fm (a .t)) n i (a .choice .to - i)) in
+          let v = l .inv .2 g fm s k go in
+          let xs = offered g fm n (moveBy g fm (a .t) n (l .k)) in
+          let whole = insertWithin (machine g fm) (z .slots) (waitingIn g fm (z .half) (z .count) w) (firing (a .choice .from)) in
+          let u = left-as g fm (z .half) (z .slots) whole _ _ (l .work) (l .count) (offers-next g fm (a .t) n (l .k) (a .choice .to) (c6 .if1 .taken)) v in
+          let o = x .ensures .1 g fm s (v .kept) go in
+          left-next g fm (z .half) (z .slots) whole xs (firing (l .k + 1)) (l .work) (x .last .0) (l .count) (x .result) u o (c .if2 .left),
     )
 
 same-length-2 : tie.Need-same-length-2 Inv-loop μ-loop
@@ -78,10 +106,13 @@ same-length-2 c = c .before .before .loop .inv .1 .sized
 
 returns-2 : tie.Need-returns-2 Inv-loop μ-loop
 returns-2 c =
-    let a = c .before .before .before .before .before .before .before .args in
-    let w = now (a .work) in (
-      c .before .before .loop .inv .1,
-      λ g fm s l k go. left-none g fm (a .half) (a .slots) _ _ (c .before .before .loop .work) (c .before .before .loop .len) (offers-done g fm (a .t) (a .n) (c .before .before .loop .k) (a .choice .to) (c .if1 .left)) (c .before .before .loop .inv .0) (c .before .before .loop .inv .2 g fm s l k go),
+    let c6 = c .before .before .before .before .before .before in
+    let a = c6 .args in
+    let z = a .seats in
+    let l = c .before .before .loop in (
+      l .inv .1,
+      λ g fm s k go. left-none g fm (z .half) (z .slots) _ _ (l .work) (l .count)
+          (offers-done g fm (a .t) (a .moment .number) (l .k) (a .choice .to) (c .if1 .left)) (l .inv .0) (l .inv .2 g fm s k go),
     )
 
 pub offer-moves-spec : {M : Type 1} → statement M

@@ -1,13 +1,13 @@
 -- A thread that may stay waits as it stands.
 use mathlib.Core.List.{[]}
-use mathlib.Core.Path.{ap}
+use mathlib.Core.Path.{refl, ap}
 use denote.Ref.{now}
 use borrow.Author.Needs.{needs}
-use Rattle.runs.specs.Search as Runs
-use Rattle.runs.specs.Lists.{only, keep}
+use Rattle.runs.specs.inner.Search as Runs
+use Rattle.runs.specs.inner.Lists.{only, keep}
 use Rattle.machine.specs.Machine.{machine}
-use Rattle.threads.specs.Event.{waitingIn}
-use Rattle.threads.specs.Setting.{thread}
+use Rattle.threads.specs.inner.Event.{waitingIn}
+use Rattle.threads.specs.inner.Setting.{thread}
 use Rattle.threads.proofs.Waiting.{grown-same, within-none, within-as}
 use Rattle.threads.proofs.stay.Statement.{statement}
 use Rattle.threads.proofs.stay.Tie as tie
@@ -20,19 +20,31 @@ same-length c = search needs
 
 returns : tie.Need-returns
 returns c =
-    let a = c .before .before .before .before .before .before .before .before .args in
-    let w = now (a .work) in (
-      c .before .before .wait .ensures .0,
-      λ kinds n g fm s l k go. within-as g fm (a .half) (a .slots) (waitingIn g fm (a .half) (a .count) w) _ _ (c .before .before .wait .last .0) (c .before .before .wait .result) (ap (λ b. keep (Runs.hopeful (machine g fm) n) (only b (thread g fm (a .t)) [])) (c .before .before .before .before .if1 .taken)) (c .before .before .wait .ensures .1 kinds n g fm s l k go),
+    let c5 = c .before .before .before .before .before in
+    let c9 = c5 .before .before .before .before in
+    let a = c9 .args in
+    let w = now (a .work) in
+    let z = a .seats in
+    let x = c .before .before .wait in (
+      x .ensures .0,
+      λ g fm s k go.
+          let e = ap (λ b. keep (Runs.hopeful (machine g fm) (a .moment .number)) (only b (thread g fm (a .t)) [])) (c5 .if1 .taken) in
+          within-as g fm (z .half) (z .slots) (waitingIn g fm (z .half) (z .count) w) _ _ (x .last .0) (x .result) e
+          (x .ensures .1 (a .rules) (a .moment) refl refl g fm s k go),
     )
 
 returns-2 : tie.Need-returns-2
 unfolding keep
 returns-2 c =
-    let a = c .before .before .before .before .args in
-    let w = now (a .work) in (
-      grown-same (a .half) (a .slots) (a .count) w (c .before .before .before .before .pre .2),
-      λ kinds n g fm s l k go. within-none g fm (a .half) (a .slots) (a .count) w _ (ap (λ b. keep (Runs.hopeful (machine g fm) n) (only b (thread g fm (a .t)) [])) (c .if1 .left)) (c .before .before .before .before .pre .2) k,
+    let c4 = c .before .before .before .before in
+    let a = c4 .args in
+    let w = now (a .work) in
+    let z = a .seats in
+    let p = c4 .pre in (
+      grown-same (z .half) (z .slots) (z .count) w (p .2),
+      λ g fm s k go.
+          let e = ap (λ b. keep (Runs.hopeful (machine g fm) (a .moment .number)) (only b (thread g fm (a .t)) [])) (c .if1 .left) in
+          within-none g fm (z .half) (z .slots) (z .count) w _ e (p .2) k,
     )
 
 pub stay-spec : {M : Type 1} → statement M

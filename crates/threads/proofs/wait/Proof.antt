@@ -17,18 +17,30 @@ same-length c = search needs
 
 returns : tie.Need-returns
 returns c =
-    let a = c .before .before .before .before .before .before .before .before .before .args in
-    let w = now (a .work) in (
-      grown-insert (a .half) (a .count) (a .slots) (a .b) w (c .before .before .insert .last .0) (c .before .before .insert .result) (c .before .before .before .before .before .before .before .before .before .pre .1) (c .before .before .before .before .before .before .before .before .before .pre .2) (c .before .before .insert .ensures),
-      λ kinds n g fm s l k go. wait-in g fm (a .half) (a .slots) n (a .count) (a .b) w (c .before .before .before .before .before .before .before .before .before .pre .2) k (c .before .before .insert .last .0) (c .before .before .insert .result) go (sym (c .before .before .before .before .if1 .taken) ∙ (c .before .before .before .before .before .hopeful-at .ensures g fm kinds n s l (go .fit))) (c .before .before .insert .ensures),
+    let c4 = c .before .before .before .before in
+    let c5 = c4 .before in
+    let c9 = c5 .before .before .before .before in
+    let a = c9 .args in
+    let w = now (a .work) in
+    let z = a .seats in
+    let x = c .before .before .insert in
+    let p = c9 .pre in (
+      grown-insert (z .half) (z .count) (z .slots) (a .b) w (x .last .0) (x .result) (p .1) (p .2) (x .ensures),
+      λ rules m h q g fm s k go.
+          let e = sym (c4 .if1 .taken) ∙ c5 .hopeful-at .ensures rules m h q g fm s (go .fit) in
+          wait-in g fm (z .half) (z .slots) (m .number) (z .count) (a .b) w (p .2) k (x .last .0) (x .result) go e (x .ensures),
     )
 
 returns-2 : tie.Need-returns-2
 returns-2 c =
-    let a = c .before .before .before .before .before .args in
-    let w = now (a .work) in (
-      grown-same (a .half) (a .slots) (a .count) w (c .before .before .before .before .before .pre .2),
-      λ kinds n g fm s l k go. wait-out g fm (a .half) (a .slots) n (a .count) (a .b) w (c .before .before .before .before .before .pre .2) k (sym (c .if1 .left) ∙ (c .before .hopeful-at .ensures g fm kinds n s l (go .fit))),
+    let c5 = c .before .before .before .before .before in
+    let a = c5 .args in
+    let w = now (a .work) in
+    let z = a .seats in
+    let p = c5 .pre in (
+      grown-same (z .half) (z .slots) (z .count) w (p .2),
+      λ rules m h q g fm s k go. wait-out g fm (z .half) (z .slots) (m .number) (z .count) (a .b) w (p .2) k
+          (sym (c .if1 .left) ∙ c .before .hopeful-at .ensures rules m h q g fm s (go .fit)),
     )
 
 pub wait-spec : {M : Type 1} → statement M

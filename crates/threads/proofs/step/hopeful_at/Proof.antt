@@ -1,10 +1,13 @@
 -- `threads::hopeful_at` meets its contract: where the scene stands, the code's answer is the machine's.
-use Rattle.interpreter.specs.Bytes.{expiresAt, aliveBelow}
-use Rattle.interpreter.proofs.CodeGuard.{rest-drop}
+use Rattle.machine_code.specs.inner.Bytes.{expiresAt, aliveBelow}
+use Rattle.guard_code.proofs.GuardOnBytes.{rest-drop}
 use mathlib.Core.List.{List}
+use mathlib.Core.Bool.{Bool}
 use Prim.Native.Nat.{ℕ}
 use native.Mathlib.Omega.{arith}
-use mathlib.Core.Path.{ap, _∙_}
+use mathlib.Core.Path.{ap, ap₂, sym, _∙_}
+use lib.ListN.{drop}
+use Rattle.event_log.specs.declared.Latest.{Latest}
 use denote.Ref.{now}
 use Rattle.threads.proofs.Tables.{hopeful-here}
 use borrow.Author.Needs.{needs}
@@ -12,7 +15,7 @@ use Rattle.threads.proofs.step.hopeful_at.Statement.{statement}
 use Rattle.threads.proofs.step.hopeful_at.Tie as tie
 
 returns : tie.Need-returns
-returns c = λ g fm kinds n s l h. absurd (omega (arith, s .offsets .sized, c .if1 .taken))
+returns c = λ rules m p q g fm s h. absurd (omega (arith, s .offsets .sized, c .if1 .taken))
 
 sub-hopeful : tie.Need-sub-hopeful
 sub-hopeful c = search needs
@@ -23,16 +26,19 @@ part-hopeful-start c = search needs
 part-hopeful-end : tie.Need-part-hopeful-end
 part-hopeful-end c = search needs
 
-configuration-of-requires : tie.Need-configuration-of-requires
-configuration-of-requires c κs = search needs
-
 hopeful-requires : tie.Need-hopeful-requires
 hopeful-requires c κs = search needs
 
 returns-2 : tie.Need-returns-2
 returns-2 c =
-    let a = c .before .before .before .before .before .before .args in
-    λ g fm kinds n s l h. c .hopeful .ensures ∙ ap (λ (x : List ℕ). aliveBelow (expiresAt (now (a .f)) x (c .before .configuration-of .result) (a .up) (a .event)) 8) (rest-drop (now (a .table)) 128) ∙ hopeful-here g fm (now (a .f)) (now (a .table)) kinds (a .up) (a .event) s n l (a .t) h (c .before .configuration-of .result) (c .before .configuration-of .ensures)
+    let c6 = c .before .before .before .before .before .before in
+    let a = c6 .args in
+    let f = now (a .f) in
+    let steps = now (a .table) in
+    let alive : List ℕ → List Bool → Latest → Bool = λ x y z. aliveBelow (expiresAt f x (a .t .config) y (z .values)) 8 in
+    λ rules m p q g fm s h.
+    c .hopeful .ensures ∙ ap (λ x. alive x (a .rises) (a .latest)) (rest-drop steps 128)
+    ∙ ap₂ (alive (drop 128 steps)) (sym p) (sym q) ∙ hopeful-here g fm f steps rules m s (a .t) h
 
 pub hopeful-at-spec : {M : Type 1} → statement M
 hopeful-at-spec =
@@ -42,6 +48,5 @@ hopeful-at-spec =
     sub-hopeful
     part-hopeful-start
     part-hopeful-end
-    configuration-of-requires
     hopeful-requires
     returns-2)

@@ -1,6 +1,6 @@
--- `threads::mark_entry` meets its contract: an entry is made 0 only where the step's mark says so.
-use Rattle.threads.specs.Setting.{EventTable}
-use Rattle.interpreter.specs.Bytes.{fired, lapsed}
+-- `table::mark_entry` meets its contract: an entry is made 0 only where the step's mark says so.
+use Rattle.threads.specs.inner.Setting.{EventTable}
+use Rattle.machine_code.specs.inner.Bytes.{fired, lapsed}
 use mathlib.Core.Bool.{true, false}
 use native.Mathlib.Omega.{arith}
 use Prim.Native.Nat.{_+_}
@@ -15,17 +15,8 @@ use Rattle.threads.proofs.table.mark_entry.Tie as tie
 entry-requires : tie.Need-entry-requires
 entry-requires c κs = search needs
 
-mark-step-requires : tie.Need-mark-step-requires
-mark-step-requires c κs = search needs
-
-mul-unless : tie.Need-mul-unless
-mul-unless c = search needs
-
-slice-read-unless : tie.Need-slice-read-unless
-slice-read-unless c = search needs
-
-unless-requires : tie.Need-unless-requires
-unless-requires c κs = search needs
+barred-requires : tie.Need-barred-requires
+barred-requires c κs = search needs
 
 mul-table : tie.Need-mul-table
 mul-table c = search needs
@@ -33,17 +24,23 @@ mul-table c = search needs
 slice-write-table : tie.Need-slice-write-table
 slice-write-table c = search needs
 
+due-requires : tie.Need-due-requires
+due-requires c κs = search needs
+
 add-unless : tie.Need-add-unless
 add-unless c = search needs
 
-mul-unless-2 : tie.Need-mul-unless-2
-mul-unless-2 c = search needs
+mul-unless : tie.Need-mul-unless
+mul-unless c = search needs
 
-slice-read-unless-2 : tie.Need-slice-read-unless-2
-slice-read-unless-2 c = omega (arith, length-set (now (c .before .before .before .before .before .before .before .before .before .before .args .table)) (c .before .before .before .before .before .before .before .before .before .before .args .i) (c .before .unless .result), c .before .before .before .before .before .before .before .before .before .before .pre)
+slice-read-unless : tie.Need-slice-read-unless
+slice-read-unless c =
+    let c10 = c .before .before .before .before .before .before .before .before .before .before in
+    let s = c10 in
+    omega (arith, length-set (now (s .args .table)) (s .args .i) 0, s .pre)
 
-unless-requires-2 : tie.Need-unless-requires-2
-unless-requires-2 c κs = search needs
+unless-requires : tie.Need-unless-requires
+unless-requires c κs = search needs
 
 add-table : tie.Need-add-table
 add-table c = search needs
@@ -52,42 +49,59 @@ mul-table-2 : tie.Need-mul-table-2
 mul-table-2 c = search needs
 
 slice-write-table-2 : tie.Need-slice-write-table-2
-slice-write-table-2 c = omega (arith, length-set (now (c .before .before .before .before .before .before .before .before .before .before .before .args .table)) (c .before .before .before .before .before .before .before .before .before .before .before .args .i) (c .before .before .unless .result), c .before .before .before .before .before .before .before .before .before .before .before .pre)
+slice-write-table-2 c =
+    let c11 = c .before .before .before .before .before .before .before .before .before .before .before in
+    let s = c11 in
+    omega (arith, length-set (now (s .args .table)) (s .args .i) 0, s .pre)
 
 same-length : tie.Need-same-length
 same-length c = search needs
 
 returns : tie.Need-returns
 returns c =
-    let a = c .before .before .before .before .before .before .before .before .before .before .before .args in
+    let c4 = c .before .before .before .before in
+    let c5 = c4 .before in
+    let c7 = c5 .before .before in
+    let c11 = c7 .before .before .before .before in
+    let s = c11 in
+    let a = s .args in
+    let f = now (a .f) in
+    let steps = now (a .steps) in
+    let m = a .moment in
     let t = now (a .table) in
-    let u = set t (a .i) (c .before .before .unless .result) in
-    let m = c .before .before .before .before .mark-step .result in (
-      length-set u (128 + a .i) (c .unless2 .result) ∙ length-set t (a .i) (c .before .before .unless .result),
+    let u = set t (a .i) 0 in
+    let y = c .unless in
+    let at = c7 .entry .ensures in
+    let late = c .before .before .due in (
+      length-set u (128 + a .i) (y .result) ∙ length-set t (a .i) 0,
       λ e.
-          let k = c .before .before .before .before .mark-step .ensures in
-          let at = c .before .before .before .before .before .entry .ensures in
-          let one = subst (λ x. EventTable (now (a .f)) (now (a .steps)) (now (a .up)) (now (a .event)) (set t (a .i) x)) (sym (c .before .before .unless .ensures)) (barred-more (now (a .f)) (now (a .steps)) (now (a .up)) (now (a .event)) t (a .i) (c .before .before .before .before .before .before .before .before .before .before .before .pre .1) e (m .barred) (λ b c. subst (λ x. (fired (now (a .f)) x c (now (a .event))) .fires ≡ false) at (k .silent b c))) in
-          subst (λ x. EventTable (now (a .f)) (now (a .steps)) (now (a .up)) (now (a .event)) (set u (128 + a .i) x)) (sym (c .unless2 .ensures)) (due-more (now (a .f)) (now (a .steps)) (now (a .up)) (now (a .event)) u (a .i) (c .before .before .before .before .before .before .before .before .before .before .before .pre .1) one (m .due) (λ b c. subst (λ x. lapsed (now (a .f)) x c (now (a .up)) (now (a .event)) ≡ true) at (k .over b c))),
+          let quiet = c5 .barred .ensures (c4 .if1 .taken) in
+          let one = barred-more f steps (a .rises) m t (a .i) (s .pre .1) e true
+          (λ b d. subst (λ i. (fired f i d (m .event .values)) .fires ≡ false) at (quiet d)) in
+          subst (λ z. EventTable f steps (a .rises) m (set u (128 + a .i) z)) (sym (y .ensures))
+          (due-more f steps (a .rises) m u (a .i) (s .pre .1) one (late .result)
+          (λ b d. subst (λ i. lapsed f i d (a .rises) (m .latest .values) ≡ true) at (late .ensures b d))),
     )
+
+returns-2 : tie.Need-returns-2
+returns-2 c = search needs
 
 pub mark-entry-spec : {M : Type 1} → statement M
 mark-entry-spec =
     tie.close
     (tie.spec
     entry-requires
-    mark-step-requires
+    barred-requires
+    mul-table
+    slice-write-table
+    due-requires
+    add-unless
     mul-unless
     slice-read-unless
     unless-requires
-    mul-table
-    slice-write-table
-    add-unless
-    mul-unless-2
-    slice-read-unless-2
-    unless-requires-2
     add-table
     mul-table-2
     slice-write-table-2
     same-length
-    returns)
+    returns
+    returns-2)

@@ -7,10 +7,15 @@ is-new-requires : tie.Need-is-new-requires
 is-new-requires c κs = search needs
 
 mark-state-requires : tie.Need-mark-state-requires
-mark-state-requires c κs = (c .before .before .before .before .before .before .before .before .pre, c .before .before .is-new .ensures (c .before .if1 .taken))
+mark-state-requires c κs =
+    let c6 = c .before .before .before .before .before .before in
+    (c6 .pre, c .before .before .is-new .ensures (c .before .if1 .taken))
 
 array-write-more : tie.Need-array-write-more
-array-write-more c = c .before .before .before .before .before .is-new .ensures (c .before .before .before .before .if1 .taken)
+array-write-more c =
+    let c4 = c .before .before .before .before in
+    let c5 = c4 .before in
+    c5 .is-new .ensures (c4 .if1 .taken)
 
 same-length : tie.Need-same-length
 same-length c = search needs

@@ -2,27 +2,33 @@
 use native.Mathlib.Omega.{arith}
 use Prim.Native.Nat.{_-_, _≤_}
 use mathlib.Core.Path.{refl, _∙_}
-use Rattle.threads.specs.Setting.{MarkedIs}
+use Rattle.threads.specs.inner.Setting.{MarkedIs}
 use Rattle.threads.proofs.table.mark_state.Statement.{statement}
 use Rattle.threads.proofs.table.mark_state.Tie as tie
 
 abbrev Inv-loop : tie.InvT-loop
-Inv-loop table₀ s f steps up event k₀ table k = (k ≤ 8) × MarkedIs f steps up event table₀ table
+Inv-loop table₀ s f steps rises m k₀ table k = (k ≤ 8) × MarkedIs f steps rises m table₀ table
 
 abbrev μ-loop : tie.MeasureT-loop
-μ-loop table₀ s f steps up event k₀ table k = 8 - k
+μ-loop table₀ s f steps rises m k₀ table k = 8 - k
 
 loop-holds : tie.Need-loop-holds Inv-loop μ-loop
 loop-holds c = (omega arith, (refl, λ e. e))
 
 mul-mark-entry : tie.Need-mul-mark-entry Inv-loop μ-loop
-mul-mark-entry c = omega (arith, c .before .before .before .before .before .before .before .before .pre)
+mul-mark-entry c =
+    let c6 = c .before .before .before .before .before .before in
+    omega (arith, c6 .pre)
 
 add-mark-entry : tie.Need-add-mark-entry Inv-loop μ-loop
-add-mark-entry c = omega (arith, c .before .before .before .before .before .before .before .before .pre, c .before .loop-test .taken)
+add-mark-entry c =
+    let c6 = c .before .before .before .before .before .before in
+    omega (arith, c6 .pre, c .before .loop-test .taken)
 
 mark-entry-requires : tie.Need-mark-entry-requires Inv-loop μ-loop
-mark-entry-requires c κs = (omega (arith, c .before .before .before .before .before .before .before .before .pre, c .before .before .loop .inv .1 .0), omega (arith, c .before .before .before .before .before .before .before .before .pre, c .before .loop-test .taken))
+mark-entry-requires c κs =
+    let c6 = c .before .before .before .before .before .before in
+    (omega (arith, c6 .pre, c .before .before .loop .inv .1 .0), omega (arith, c6 .pre, c .before .loop-test .taken))
 
 add-k : tie.Need-add-k Inv-loop μ-loop
 add-k c = omega arith
@@ -31,7 +37,9 @@ loop-less : tie.Need-loop-less Inv-loop μ-loop
 loop-less c = omega arith
 
 loop-again : tie.Need-loop-again Inv-loop μ-loop
-loop-again c = (omega arith, (c .before .before .mark-entry .ensures .0 ∙ c .before .before .before .before .before .loop .inv .1 .0, λ e. c .before .before .mark-entry .ensures .1 (c .before .before .before .before .before .loop .inv .1 .1 e)))
+loop-again c =
+    let c5 = c .before .before .before .before .before in
+    (omega arith, (c .before .before .mark-entry .ensures .0 ∙ c5 .loop .inv .1 .0, λ e. c .before .before .mark-entry .ensures .1 (c5 .loop .inv .1 .1 e)))
 
 same-length : tie.Need-same-length Inv-loop μ-loop
 same-length c = c .before .loop .inv .1 .0

@@ -52,12 +52,21 @@ loop-less : tie.Need-loop-less Inv-loop μ-loop
 loop-less c = search needs
 
 loop-again : tie.Need-loop-again Inv-loop μ-loop
-loop-again c = copied-next (now (c .before .before .before .before .args .steps)) (c .before .before .before .loop .table) (c .before .before .before .loop .i) (getD (now (c .before .before .before .before .args .steps)) (c .before .before .before .loop .i) 0) (c .before .before .loop-test .taken) refl (c .before .before .before .loop .inv)
+loop-again c =
+    let c3 = c .before .before .before in
+    let c4 = c3 .before in
+    copied-next (now (c4 .args .steps)) (c3 .loop .table) (c3 .loop .i) (getD (now (c4 .args .steps)) (c3 .loop .i) 0) (c .before .before .loop-test .taken)
+    refl (c3 .loop .inv)
 
 returns : tie.Need-returns Inv-loop μ-loop
 returns c =
     let v = c .before .loop .inv in
-    record { sized = v .sized; first = λ i h. v .first i (omega (arith, h, c .loop-test .left)); second = λ i h. v .second i (omega (arith, h, c .loop-test .left)) }
+    record {
+      sized = v .sized;
+      first = λ i h. v .first i (omega (arith, h, c .loop-test .left));
+      second = λ
+          i h. v .second i (omega (arith, h, c .loop-test .left));
+    }
 
 pub widened-spec : {M : Type 1} → statement M
 widened-spec =

@@ -1,0 +1,54 @@
+-- What a search names over a correct log and a correct formula fits a row; every tied variable exists.
+use Prim.Native.Nat.{ℕ, _<_, _≤_}
+use mathlib.Core.Path.{_≡_}
+use mathlib.Core.List.{List, [], _∷_, map, flatMap}
+use lib.ListN.{length}
+use Rattle.base.specs.Lists.{All}
+use Rattle.event_log.specs.Log.{Log}
+use Rattle.event_log.specs.Correct as LogCorrect
+use Rattle.formula.specs.Formula.{Formula}
+use Rattle.formula.specs.Encode.{TIED, stateCommands, commands}
+use Rattle.formula.specs.Correct as FormulaCorrect
+use Rattle.formula.specs.Correct.{Exists}
+use Rattle.formula.proofs.Basics.{all-left}
+use Rattle.runs.specs.Demand.{Demand}
+use Rattle.runs.specs.inner.Search.{search}
+use Rattle.runs.specs.Answer.{Answer, found, absent, crowded}
+use Rattle.runs.proofs.Meets.{search-meets}
+use Rattle.machine.specs.Configuration.{Valid}
+use Rattle.machine.specs.Machine.{machine}
+use Rattle.machine.proofs.Premises.{premises, keeps}
+use Rattle.search.proofs.Premises.{ends-valid}
+
+-- every TIED names one of the 8 variables
+tied-variables : (fields states : ℕ) (ws : List ℕ) → All (Exists fields states) (map TIED ws) → All (λ v. v < 8) ws
+tied-variables fields states [] h = tt
+tied-variables fields states (w ∷ ws) h = (h .0, tied-variables fields states ws (h .1))
+
+pub tied-exist : (g : Log) (fm : Formula) → FormulaCorrect.Correct (length (g .fields)) fm → All (λ v. v < 8) (fm .tied)
+unfolding commands
+tied-exist g fm ok =
+    tied-variables (length (g .fields)) (length (fm .states)) (fm .tied)
+    (all-left (Exists (length (g .fields)) (length (fm .states))) (map TIED (fm .tied)) (flatMap stateCommands (fm .states)) (ok .values))
+
+-- what a row needs of a run that is named: at most 32 steps, and a place for each of the 8 variables
+pub record Bounded (steps held values : ℕ) : Type 0 where
+  pub short : steps ≤ 32
+  pub held-8 : held ≡ 8
+  pub values-8 : values ≡ 8
+
+abbrev pub Fitting : (g : Log) (fm : Formula) → Answer (machine g fm) → Type 0
+Fitting g fm (found c t width) = Bounded (length t) (length (c .held)) (length (c .values))
+Fitting g fm (absent width) = Unit {0}
+Fitting g fm (crowded n) = Unit {0}
+
+module _ (g : Log) (fm : Formula) (log : LogCorrect.Recorded g) (formula : FormulaCorrect.Correct (length (g .fields)) fm) where
+  demand-fits : (slots i : ℕ) (a : Answer (machine g fm)) → Demand (machine g fm) slots i a → Fitting g fm a
+  demand-fits slots i (found c t width) d =
+      let v : Valid (length (fm .states)) c = ends-valid g fm (premises g fm log formula) c i t (d .run .path .follows) in
+      record { short = d .run .path .most; held-8 = v .held-8; values-8 = v .values-8 }
+  demand-fits slots i (absent width) d = tt
+  demand-fits slots i (crowded n) d = tt
+
+  pub search-fits : (slots i : ℕ) → i ≤ length (g .events) → Fitting g fm (search (machine g fm) slots i)
+  search-fits slots i h = demand-fits slots i (search (machine g fm) slots i) (search-meets (machine g fm) (keeps g fm log formula) slots i h)

@@ -1,0 +1,2 @@
+-- Laws that the closure rests on.
+pub mod Rounds

@@ -1,0 +1,2 @@
+-- Laws that the reader of a command rests on.
+pub mod NextCommand

@@ -1,0 +1,2 @@
+-- What the reader of a command keeps and hands on.
+pub mod inner

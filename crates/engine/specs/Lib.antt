@@ -1,3 +1,0 @@
--- What the search from one start keeps from event to event, and the checks of a call.
-pub mod Turn
-pub mod Checks

@@ -1,0 +1,2 @@
+-- What the reader of an expression keeps and hands on.
+pub mod inner

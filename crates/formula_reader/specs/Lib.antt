@@ -1,7 +1,0 @@
--- What the reader of a formula answers (Answer, which its promise names), and what its parts keep and hand on along the way.
-pub mod Places
-pub mod Prefix
-pub mod Take
-pub mod Scan
-pub mod Reach
-pub mod Answer

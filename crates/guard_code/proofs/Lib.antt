@@ -1,0 +1,3 @@
+-- Laws of the code over a guard's bytes: on the encoding of an expression it gives what the definitions give.
+pub mod GuardOnBytes
+pub mod TrendOnBytes

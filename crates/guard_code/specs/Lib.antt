@@ -1,0 +1,2 @@
+-- What the code makes of a guard's bytes: a twin of each definition of guards, rising and falling.
+pub mod inner

@@ -1,3 +1,0 @@
--- What the code computes on any bytes: a twin of each definition of the machine; what an event alone says of a step.
-pub mod Bytes
-pub mod Marks

@@ -1,0 +1,162 @@
+-- Expiry over the formula's bytes: what each function of the code computes, and that on a step's bytes it is the definition's.
+use Prim.Native.Nat.{ℕ, _+_, _<_, _≤_}
+use mathlib.Core.Path.{_≡_, refl, ap, sym, _∙_}
+use mathlib.Core.Bool.{Bool, true, false, cond, not, _||_}
+use mathlib.Core.List.{List, [], _∷_, _++_}
+use mathlib.Core.Option.{Option, none, some}
+use native.Mathlib.Omega.{arith}
+use borrow.Author.Tests.{le-leb, lt-leb, ne-eqb, eqb-true, eqb-false}
+use lib.ListN.{length, getD, drop, set, length-set}
+use lib.Seq.{getD-set-same, getD-set-other}
+use lib.Dec.{eqb}
+use Rattle.base.specs.Lists.{All}
+use Rattle.event_log.specs.Log.{Kind}
+use Rattle.formula.specs.Formula.{Expr, Clause, TEST, TESTV, BIND, Step}
+use Rattle.formula.specs.Encode.{operatorByte, encodeExpr, guardCommands}
+use Rattle.formula.specs.Correct.{LeafExists, Exists, GuardFits}
+use Rattle.machine_code.specs.declared.Configuration.{Configuration}
+use Rattle.machine_code.specs.declared.Walked.{Walked}
+use Rattle.machine.specs.Firing.{isHeld, leave}
+use Rattle.machine.specs.Expiry.{rises, firstBind, fieldRises, guardFalls, expired}
+use Rattle.guard_code.specs.inner.Bytes.{leafValue, leafMarked, guardAt, fallsAt}
+use Rattle.machine_code.specs.inner.Bytes.{tested, holding, bound, begun, walked, raised, lapsed, configOf}
+use Rattle.machine_code.proofs.WalkOnBytes.{first-byte, drop-more, walkOf}
+use Rattle.guard_code.proofs.TrendOnBytes.{judge-encode, marked-rises, marked-falls}
+use Rattle.machine_code.proofs.FiringOnBytes.{StepAt, Ready, guardBytes, inside, walked-encode, walked-along, walked-ends, guard-left}
+use Rattle.machine_code.proofs.FiringOnBytes.{parts-exist, guard-exists}
+
+pub lapsed-out : (f : List ℕ) (at : ℕ) (c : Configuration) (rising : List Bool) (event : List ℕ) → length f ≤ at → true ≡ lapsed f at c rising event
+unfolding lapsed
+lapsed-out f at c rising event h = rw (le-leb (length f) at h)
+
+-- the code's three ways out behind the walk
+module _ (f : List ℕ) (at : ℕ) (c : Configuration) (rising : List Bool) (event : List ℕ) (w : Walked) (in-file : at < length f)
+    (e : w ≡ walked f at c rising event) where
+  pub lapsed-due : w .due ≡ true → true ≡ lapsed f at c rising event
+  unfolding lapsed
+  lapsed-due d = rw (lt-leb (length f) at in-file, ← e, d)
+
+  pub lapsed-guard : (counters : List ℕ) (b g : Bool) → w .due ≡ false → counters ≡ raised (c .counters) (c .state)
+      → b ≡ fallsAt (leafMarked (c .held)) (leafMarked (w .grows)) f (w .at) → b ≡ true → g ≡ guardAt (leafValue (w .values) counters) f (w .at)
+      → not g ≡ lapsed f at c rising event
+  unfolding lapsed
+  lapsed-guard counters b g d n p q r = rw (lt-leb (length f) at in-file, ← e, d, ← n, ← p, q, ← r)
+
+  pub lapsed-not : (b : Bool) → w .due ≡ false → b ≡ fallsAt (leafMarked (c .held)) (leafMarked (w .grows)) f (w .at) → b ≡ false
+      → false ≡ lapsed f at c rising event
+  unfolding lapsed
+  lapsed-not b d p q = rw (lt-leb (length f) at in-file, ← e, d, ← p, q)
+
+-- what marks a variable as growing: its mark before, or the field of its first BIND
+abbrev later : List Kind → Bool → Option ℕ → Bool
+later kinds g none = g
+later kinds g (some f) = rises kinds f
+
+-- a walk with a mark for each variable
+record Marked (w : Walked) : Type 0 where
+  held-8 : length (w .held) ≡ 8
+  grows-8 : length (w .grows) ≡ 8
+
+tested-marked : (w : Walked) (next o x y : ℕ) (r : Bool) → Marked w → Marked (tested w next o x y r)
+unfolding tested
+tested-marked w next o x y r m = record { held-8 = m .held-8; grows-8 = m .grows-8 }
+
+bound-marked : (w : Walked) (next v x : ℕ) (r b : Bool) → getD (w .held) v false ≡ b → Marked w → Marked (bound w next v x r)
+unfolding bound holding
+bound-marked w next v x r true e m = rw e (record { held-8 = m .held-8; grows-8 = m .grows-8 })
+bound-marked w next v x r false e m = rw e (record { held-8 = length-set (w .held) v true ∙ m .held-8; grows-8 = length-set (w .grows) v r ∙ m .grows-8 })
+
+module _ (f : List ℕ) (kinds : List Kind) (rising : List Bool) (mark : (g : ℕ) → getD rising g false ≡ rises kinds g) (prior event : List ℕ) (v : ℕ)
+    (small : v < 8) where
+  abbrev Grown : List Clause → Walked → Type 0
+  Grown ks w =
+      getD ((walkOf f prior rising event w ks) .grows) v false ≡ cond (getD (w .held) v false) (getD (w .grows) v false)
+      (later kinds (getD (w .grows) v false) (firstBind ks v))
+
+  cond-same : (b g : Bool) → g ≡ cond b g g
+  cond-same true g = refl
+  cond-same false g = refl
+
+  tested-grown : (ks : List Clause) (w : Walked) (next o x y : ℕ) (r : Bool) → Grown ks (tested w next o x y r)
+      → getD ((walkOf f prior rising event (tested w next o x y r) ks) .grows) v false
+      ≡ cond (getD (w .held) v false) (getD (w .grows) v false) (later kinds (getD (w .grows) v false) (firstBind ks v))
+  unfolding tested
+  tested-grown ks w next o x y r e = e
+
+  -- what a BIND of u does to v's marks
+  bound-marks : (ks : List Clause) (w : Walked) (next g u x : ℕ) → Marked w → (b : Bool) → getD (w .held) u false ≡ b → (t : Bool) → eqb u v ≡ t
+      → cond (getD ((bound w next u x (getD rising g false)) .held) v false)
+      (getD ((bound w next u x (getD rising g false)) .grows) v false)
+      (later kinds (getD ((bound w next u x (getD rising g false)) .grows) v false) (firstBind ks v))
+      ≡ cond (getD (w .held) v false) (getD (w .grows) v false) (later kinds (getD (w .grows) v false) (cond (eqb u v) (some g) (firstBind ks v)))
+  unfolding bound holding
+  bound-marks ks w next g u x m true e true q =
+      let p : u ≡ v = eqb-true u v q in
+      let h : getD (w .held) v false ≡ true = ap (λ i. getD (w .held) i false) (sym p) ∙ e in
+      rw (e, q, h)
+  bound-marks ks w next g u x m true e false q = rw (e, q)
+  bound-marks ks w next g u x m false e true q =
+      let p : u ≡ v = eqb-true u v q in
+      let h : getD (w .held) v false ≡ false = ap (λ i. getD (w .held) i false) (sym p) ∙ e in
+      let a : getD (set (w .held) v true) v false ≡ true = getD-set-same (w .held) v true false (omega (arith, m .held-8)) in
+      let d : getD (set (w .grows) v (getD rising g false)) v false ≡ getD rising g false =
+      getD-set-same (w .grows) v (getD rising g false) false (omega (arith, m .grows-8)) in
+      rw (e, q, p, h, a, d) (mark g)
+  bound-marks ks w next g u x m false e false q =
+      let ne : v ≡ u → ⊥ = λ r. eqb-false u v q (sym r) in
+      let a : getD (set (w .held) u true) v false ≡ getD (w .held) v false = getD-set-other (w .held) u v true false ne in
+      let d : getD (set (w .grows) u (getD rising g false)) v false ≡ getD (w .grows) v false = getD-set-other (w .grows) u v (getD rising g false) false ne in
+      rw (e, q, a, d)
+
+  grown : (ks : List Clause) (w : Walked) → Marked w → Grown ks w
+  grown [] w m = cond-same (getD (w .held) v false) (getD (w .grows) v false)
+  grown (TEST g o y ∷ ks) w m =
+      tested-grown ks w (w .at + 7) (operatorByte o) (getD event g 0) y (getD rising g false) (grown ks _ (tested-marked w _ _ _ _ _ m))
+  grown (TESTV g o u ∷ ks) w m =
+      tested-grown ks w (w .at + 4) (operatorByte o) (getD event g 0) (getD prior u 0) (getD rising g false)
+      (grown ks _ (tested-marked w _ _ _ _ _ m))
+  grown (BIND g u ∷ ks) w m =
+      grown ks (bound w (w .at + 3) u (getD event g 0) (getD rising g false)) (bound-marked w _ _ _ _ (getD (w .held) u false) refl m)
+      ∙ bound-marks ks w (w .at + 3) g u (getD event g 0) m (getD (w .held) u false) refl (eqb u v) refl
+
+held-first : (kinds : List Kind) (b : Bool) (o : Option ℕ) → cond b b (later kinds b o) ≡ (b || fieldRises kinds o)
+held-first kinds true o = refl
+held-first kinds false none = refl
+held-first kinds false (some f) = refl
+
+module _ (fields states : ℕ) (f : List ℕ) (at : ℕ) (s : Step) (h : StepAt fields states f at s) (kinds : List Kind) (rising : List Bool)
+    (mark : (g : ℕ) → getD rising g false ≡ rises kinds g) (c : Configuration) (r : Ready c) (event : List ℕ) where
+  -- the variables that the walk marks as growing are those that the definition calls rising
+  walk-grows : (v : ℕ) → v < 8 → getD ((walked f at c rising event) .grows) v false ≡ (isHeld (configOf c) v || fieldRises kinds (firstBind (s .clauses) v))
+  unfolding begun
+  walk-grows v small =
+      ap (λ (w : Walked). getD (w .grows) v false) (walked-encode fields states f at s h c rising event)
+      ∙ grown f kinds rising mark (c .values) event v small (s .clauses) (begun at c) (record { held-8 = r .held-8; grows-8 = r .held-8 })
+      ∙ held-first kinds (getD (c .held) v false) (firstBind (s .clauses) v)
+
+  -- the guard behind the walk is falling exactly where the step's guard is
+  falls-encode : (g : Option Expr) (p : ℕ) → drop p f ≡ guardBytes g ++ h .after → All (Exists fields states) (guardCommands g) → GuardFits g
+      → fallsAt (leafMarked (c .held)) (leafMarked ((walked f at c rising event) .grows)) f p ≡ guardFalls kinds (configOf c) (s .clauses) g
+  unfolding fallsAt guardCommands
+  falls-encode none p e x y =
+      let b : getD f p 0 ≡ getD (h .after) 0 0 = first-byte f (h .after) p e in
+      rw (b, ne-eqb (getD (h .after) 0 0) 0x15 (λ q. omega (arith, h .ends)))
+  falls-encode (some g) p e x y =
+      let b : getD f p 0 ≡ 0x15 = first-byte f _ p e in
+      let d : drop (p + 1) f ≡ encodeExpr g ++ h .after = drop-more f (0x15 ∷ []) (encodeExpr g ++ h .after) p e in
+      let grows = (walked f at c rising event) .grows in
+      let up = marked-rises kinds (configOf c) (s .clauses) states grows walk-grows in
+      let down = marked-falls kinds (configOf c) (s .clauses) states in
+      let j = judge-encode kinds (configOf c) (s .clauses) (LeafExists states) (leafMarked grows) (leafMarked (c .held)) up down g 8 (x .0) (y .1) in
+      rw (b, d, j .is-falling (h .after))
+
+  -- A step's bytes are expired exactly where the step is.
+  pub expired-encode : lapsed f at c rising event ≡ expired kinds (configOf c) s event
+  unfolding lapsed expired leave begun
+  expired-encode =
+      let a = walked-along fields states f at s h kinds rising mark c event in
+      let g = guard-left fields states f at s h c rising event r (a .agrees) in
+      let x = guard-exists fields states (s .clauses) (s .guard) (parts-exist fields states f at s h) in
+      let p = falls-encode (s .guard) ((walked f at c rising event) .at) (walked-ends fields states f at s h c rising event) x (h .fits .guard) in
+      let i = lt-leb (length f) at (inside fields states f at s h) in
+      rw (i, a .overdue, p, g)

@@ -1,0 +1,217 @@
+-- Firing over the formula's bytes: what each function of the code computes, and that on a step's bytes it is the definition's firing.
+use Prim.Native.Nat.{ℕ, suc, _+_, _<_, _≤_, min}
+use mathlib.Core.Path.{_≡_, refl, ap, sym, _∙_}
+use mathlib.Core.Bool.{Bool, true, false, cond}
+use mathlib.Core.List.{List, [], _∷_, _++_, append-assoc, append-nil, flatMap, map}
+use mathlib.Core.Option.{Option, none, some}
+use native.Mathlib.Omega.{arith}
+use borrow.Author.Tests.{lt-ltb, le-leb, lt-leb, ne-eqb}
+use lib.ListN.{length, getD, drop, set, replicate, length-drop, length-append}
+use lib.Seq.{set-out}
+use Rattle.base.proofs.Lists.{replicate-at}
+use Rattle.base.specs.Lists.{All}
+use Rattle.event_log.specs.Log.{Kind}
+use Rattle.formula.specs.Formula.{Expr, Clause, Step, Formula}
+use Rattle.formula.specs.Encode.{CLAUSE, encodeExpr, encodeClause, encodeCommand, guardCommands, stepCommands}
+use Rattle.machine_code.specs.declared.Configuration.{Configuration}
+use Rattle.machine_code.specs.declared.Walked.{Walked}
+use Rattle.formula.specs.Lookup.{stepPlace, guardPlace}
+use Rattle.formula.specs.Correct.{Exists, GuardFits, StepFits}
+use Rattle.machine.specs.Configuration.{Config, addOne, total, Valid}
+use Rattle.machine.specs.Guard.{guardHolds}
+use Rattle.machine.specs.Firing.{bindAll, leave, fires, fire}
+use Rattle.machine.specs.Expiry.{rises}
+use Rattle.guard_code.specs.inner.Bytes.{leafValue, guardAt}
+use Rattle.machine_code.specs.inner.Bytes.{walked, raised, leaving, fired, begun, isClause, configOf}
+use Rattle.machine.proofs.Configurations.{counter-le-total, add-one-set}
+use Rattle.machine.proofs.Walk.{fires-walk}
+use Rattle.guard_code.proofs.GuardOnBytes.{byte-inside, evaluate-encode}
+use Rattle.machine_code.proofs.WalkOnBytes.{byte-from, first-byte, drop-more, walkOf, walk-encode, walk-at, walk-ends, clauses-length, Agrees}
+use Rattle.machine_code.proofs.WalkOnBytes.{Along, along}
+
+pub raised-out : (counters : List ℕ) (s : ℕ) → length counters ≡ 16 → 16 ≤ s → counters ≡ raised counters s
+unfolding raised
+raised-out counters s h k = let q : length counters ≤ s = omega arith in sym (set-out counters s _ q)
+
+pub raised-in : (counters : List ℕ) (s n : ℕ) → n ≡ min (getD counters s 0 + 1) 4294967295 → set counters s n ≡ raised counters s
+unfolding raised
+raised-in counters s n e = rw e
+
+pub fired-out : (f : List ℕ) (at : ℕ) (c : Configuration) (event : List ℕ) → length f ≤ at → record { fires = false; config = c } ≡ fired f at c event
+unfolding fired
+fired-out f at c event h = rw (le-leb (length f) at h)
+
+-- inside the file: the guard decides where every test passes
+module _ (f : List ℕ) (at : ℕ) (c : Configuration) (event : List ℕ) (w : Walked) (counters : List ℕ) (t : ℕ) (in-file : at < length f)
+    (walk : w ≡ walked f at c (replicate 8 false) event) (raise : counters ≡ raised (c .counters) (c .state)) (target : t ≡ getD f (at + 1) 0) where
+  pub fired-guard : (b : Bool) → w .passes ≡ true → b ≡ guardAt (leafValue (w .values) counters) f (w .at)
+      → record { fires = b; config = leaving t w counters } ≡ fired f at c event
+  unfolding fired
+  fired-guard b h e = rw (lt-leb (length f) at in-file, ← walk, ← raise, ← target, h, e)
+
+  pub fired-failed : w .passes ≡ false → record { fires = false; config = leaving t w counters } ≡ fired f at c event
+  unfolding fired
+  fired-failed h = rw (lt-leb (length f) at in-file, ← walk, ← raise, ← target, h)
+
+-- a step's bytes, and those of its guard
+abbrev pub stepBytes : Step → List ℕ
+stepBytes s = flatMap encodeCommand (stepCommands s)
+
+abbrev pub guardBytes : Option Expr → List ℕ
+guardBytes none = []
+guardBytes (some g) = 0x15 ∷ encodeExpr g
+
+clause-bytes : (ks : List Clause) (g : Option Expr) → flatMap encodeCommand (map CLAUSE ks ++ guardCommands g) ≡ flatMap encodeClause ks ++ guardBytes g
+unfolding flatMap guardCommands encodeCommand
+clause-bytes [] none = refl
+clause-bytes [] (some g) = append-nil (0x15 ∷ encodeExpr g)
+clause-bytes (k ∷ ks) g = rw (clause-bytes ks g, append-assoc (encodeClause k) (flatMap encodeClause ks) (guardBytes g))
+
+-- The bytes at an offset are those of a correct step, and behind them stands neither a clause's command nor a GUARD: "10 STATE, 11 STEP, 00 END".
+pub record StepAt (fields states : ℕ) (f : List ℕ) (at : ℕ) (s : Step) : Type 0 where
+  pub after : List ℕ
+  pub bytes : drop at f ≡ stepBytes s ++ after
+  pub ends : getD after 0 0 < 0x12
+  pub exist : All (Exists fields states) (stepCommands s)
+  pub fits : StepFits s
+
+-- The configuration is one that a run reaches: "1 to 16 states", and no counter is full.
+pub record Ready (c : Configuration) : Type 0 where
+  pub held-8 : length (c .held) ≡ 8
+  pub values-8 : length (c .values) ≡ 8
+  pub counters-16 : length (c .counters) ≡ 16
+  pub declared : c .state < 16
+  pub below : getD (c .counters) (c .state) 0 < 4294967295
+
+-- a valid configuration with few steps taken is ready
+pub ready : (states : ℕ) (c : Configuration) → Valid states (configOf c) → states ≤ 16 → total (c .counters) < 4294967295 → Ready c
+ready states c v h k = record {
+  held-8 = v .held-8;
+  values-8 = v .values-8;
+  counters-16 = v .counters-16;
+  declared = omega (arith, v .declared);
+  below = omega (arith, counter-le-total (c .counters) (c .state));
+}
+
+pub raised-one : (c : Configuration) → Ready c → raised (c .counters) (c .state) ≡ addOne (c .counters) (c .state)
+unfolding raised
+raised-one c r =
+    let e : min (getD (c .counters) (c .state) 0 + 1) 4294967295 ≡ getD (c .counters) (c .state) 0 + 1 = omega (arith, r .below) in
+    rw (e, add-one-set (c .counters) (c .state) (omega (arith, r .counters-16, r .declared)))
+
+clauses-exist : (m n : ℕ) (ks : List Clause) (g : Option Expr) → All (Exists m n) (map CLAUSE ks ++ guardCommands g)
+    → All (λ (k : Clause). Exists m n (CLAUSE k)) ks
+clauses-exist m n [] g h = tt
+clauses-exist m n (k ∷ ks) g h = (h .0, clauses-exist m n ks g (h .1))
+
+pub guard-exists : (m n : ℕ) (ks : List Clause) (g : Option Expr) → All (Exists m n) (map CLAUSE ks ++ guardCommands g) → All (Exists m n) (guardCommands g)
+guard-exists m n [] g h = h
+guard-exists m n (k ∷ ks) g h = guard-exists m n ks g (h .1)
+
+-- what the bytes of a step say of its parts
+module _ (fields states : ℕ) (f : List ℕ) (at : ℕ) (s : Step) (h : StepAt fields states f at s) where
+  pub inside : at < length f
+  unfolding stepCommands encodeCommand flatMap
+  inside = byte-inside f at 0x11 (sym (first-byte f _ at (h .bytes))) (omega arith)
+
+  pub target-byte : getD f (at + 1) 0 ≡ s .target
+  unfolding stepCommands encodeCommand flatMap
+  target-byte = byte-from f _ at 1 (h .bytes)
+
+  pub behind-step : drop (at + 2) f ≡ flatMap encodeClause (s .clauses) ++ (guardBytes (s .guard) ++ h .after)
+  unfolding stepCommands encodeCommand flatMap
+  behind-step =
+      drop-more f (0x11 ∷ s .target ∷ []) (flatMap encodeCommand (map CLAUSE (s .clauses) ++ guardCommands (s .guard)) ++ h .after) at (h .bytes)
+      ∙ ap (λ (x : List ℕ). x ++ h .after) (clause-bytes (s .clauses) (s .guard))
+      ∙ append-assoc (flatMap encodeClause (s .clauses)) (guardBytes (s .guard)) (h .after)
+
+  -- no clause's command stands behind the clauses
+  clauses-end : (g : Option Expr) → isClause (getD (guardBytes g ++ h .after) 0 0) ≡ false
+  unfolding isClause
+  clauses-end none = rw (lt-ltb (getD (h .after) 0 0) 0x12 (h .ends))
+  clauses-end (some g) = refl
+
+  clauses-fit : length (s .clauses) ≤ suc (length f)
+  clauses-fit =
+      let e = ap length behind-step in
+      omega (arith, clauses-length (s .clauses), length-drop (at + 2) f, length-append (flatMap encodeClause (s .clauses)) (guardBytes (s .guard) ++ h .after))
+
+  pub parts-exist : All (Exists fields states) (map CLAUSE (s .clauses) ++ guardCommands (s .guard))
+  unfolding stepCommands
+  parts-exist = h .exist .1
+
+  -- the walk over the step's bytes is the walk over its clauses
+  pub walked-encode : (c : Configuration) (rising : List Bool) (event : List ℕ)
+      → walked f at c rising event ≡ walkOf f (c .values) rising event (begun at c) (s .clauses)
+  unfolding walked begun
+  walked-encode c rising event =
+      walk-encode f (c .values) rising event fields states (suc (length f)) (begun at c) (s .clauses) (guardBytes (s .guard) ++ h .after) behind-step
+      (clauses-end (s .guard)) (clauses-exist fields states (s .clauses) (s .guard) parts-exist) clauses-fit
+
+  -- and it ends where the guard begins
+  pub walked-ends : (c : Configuration) (rising : List Bool) (event : List ℕ) → drop ((walked f at c rising event) .at) f ≡ guardBytes (s .guard) ++ h .after
+  unfolding begun
+  walked-ends c rising event =
+      ap (λ (w : Walked). drop (w .at) f) (walked-encode c rising event)
+      ∙ walk-ends f (c .values) rising event (begun at c) (s .clauses) (guardBytes (s .guard) ++ h .after) behind-step
+
+  -- The walk finds the guard of step k of state i: it ends at the guard's place.
+  pub walked-place : (formula : Formula) (i k : ℕ) → at ≡ stepPlace formula i k → (c : Configuration) (rising : List Bool) (event : List ℕ)
+      → (walked f at c rising event) .at ≡ guardPlace formula i k s
+  unfolding begun guardPlace
+  walked-place formula i k e c rising event =
+      omega (arith, e, ap (λ (w : Walked). w .at) (walked-encode c rising event), walk-at f (c .values) rising event (begun at c) (s .clauses))
+
+  -- the guard that begins at an offset has the value of the step's guard, in any configuration
+  pub guard-encode : (g : Option Expr) (p : ℕ) (d : Config) → drop p f ≡ guardBytes g ++ h .after → All (Exists fields states) (guardCommands g) → GuardFits g
+      → guardAt (leafValue (d .values) (d .counters)) f p ≡ guardHolds d g
+  unfolding guardAt guardCommands
+  guard-encode none p d e x y =
+      let b : getD f p 0 ≡ getD (h .after) 0 0 = first-byte f (h .after) p e in
+      rw (b, ne-eqb (getD (h .after) 0 0) 0x15 (λ q. omega (arith, h .ends)))
+  guard-encode (some g) p c e x y =
+      let b : getD f p 0 ≡ 0x15 = first-byte f _ p e in
+      let d : drop (p + 1) f ≡ encodeExpr g ++ h .after = drop-more f (0x15 ∷ []) (encodeExpr g ++ h .after) p e in
+      let v = evaluate-encode states c g 8 (x .0) (y .1) (h .after) in
+      rw (b, d, v)
+
+  -- the walk over the step's bytes binds, passes and is due as the definition says
+  pub walked-along : (kinds : List Kind) (rising : List Bool) → ((g : ℕ) → getD rising g false ≡ rises kinds g) → (c : Configuration) (event : List ℕ)
+      → Along kinds (configOf c) (configOf c) event (s .clauses) (begun at c) (walked f at c rising event)
+  unfolding begun
+  walked-along kinds rising kept c event =
+      rw (walked-encode c rising event)
+      (along f kinds rising kept (configOf c) event (s .clauses) (configOf c) (begun at c) (record { held = refl; values = refl }))
+
+  -- the guard behind the walk, with what it has bound and the counters raised, is the step's guard in the configuration that it leaves
+  pub guard-left : (c : Configuration) (rising : List Bool) (event : List ℕ) → Ready c
+      → Agrees (walked f at c rising event) (bindAll (configOf c) event (s .clauses))
+      → guardAt (leafValue ((walked f at c rising event) .values) (raised (c .counters) (c .state))) f ((walked f at c rising event) .at)
+      ≡ guardHolds (leave (configOf c) s event) (s .guard)
+  unfolding leave
+  guard-left c rising event r a =
+      let x = guard-exists fields states (s .clauses) (s .guard) parts-exist in
+      let g = guard-encode (s .guard) ((walked f at c rising event) .at) (leave (configOf c) s event) (walked-ends c rising event) x (h .fits .guard) in
+      rw (a .values, raised-one c r) g
+
+-- A step's bytes fire exactly where the step does, and leave the configuration that it leaves.
+pub record FiresAs (f : List ℕ) (at : ℕ) (c : Configuration) (s : Step) (event : List ℕ) : Type 0 where
+  pub fires-as : (fired f at c event) .fires ≡ fires (configOf c) s event
+  pub leaves-as : configOf ((fired f at c event) .config) ≡ leave (configOf c) s event
+
+pub fire-encode : (fields states : ℕ) (f : List ℕ) (at : ℕ) (c : Configuration) (s : Step) (event : List ℕ) → StepAt fields states f at s → Ready c
+    → FiresAs f at c s event
+unfolding fired leave begun
+fire-encode fields states f at c s event h r =
+    let a = walked-along fields states f at s h [] (replicate 8 false) (λ g. replicate-at 8 g false) c event in
+    let g = guard-left fields states f at s h c (replicate 8 false) event r (a .agrees) in
+    let i = lt-leb (length f) at (inside fields states f at s h) in
+    let t = target-byte fields states f at s h in
+    let p = fires-walk (configOf c) s event (record { held-8 = r .held-8; values-8 = r .values-8 }) in
+    record { fires-as = rw (i, g, a .passing, p); leaves-as = rw (i, t, a .agrees .held, a .agrees .values, raised-one c r) }
+
+-- The same as an answer: what the step leaves, if it fires.
+pub fire-answer : (fields states : ℕ) (f : List ℕ) (at : ℕ) (c : Configuration) (s : Step) (event : List ℕ) → StepAt fields states f at s → Ready c
+    → fire (configOf c) s event ≡ cond ((fired f at c event) .fires) (some (configOf ((fired f at c event) .config))) none
+unfolding fire
+fire-answer fields states f at c s event h r = let e = fire-encode fields states f at c s event h r in rw (e .fires-as, e .leaves-as)

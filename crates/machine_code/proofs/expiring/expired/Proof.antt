@@ -1,0 +1,63 @@
+-- `expiring::expired` meets its contract: a clause past due, or a falling guard that is 0.
+use denote.Ref.{now}
+use Rattle.machine_code.proofs.ExpiryOnBytes.{lapsed-out, lapsed-due, lapsed-guard, lapsed-not}
+use borrow.Author.Needs.{needs}
+use Rattle.machine_code.proofs.expiring.expired.Statement.{statement}
+use Rattle.machine_code.proofs.expiring.expired.Tie as tie
+
+returns : tie.Need-returns
+returns c =
+    let a = c .before .before .args in lapsed-out (now (a .f)) (a .at) (a .c) (a .rises) (a .latest .values) (c .if1 .taken)
+
+walk-requires : tie.Need-walk-requires
+walk-requires c κs = search needs
+
+returns-2 : tie.Need-returns-2
+returns-2 c =
+    let c3 = c .before .before .before in
+    let c3 = c3 in
+    let a = c3 .before .before .args in
+    lapsed-due (now (a .f)) (a .at) (a .c) (a .rises) (a .latest .values) (c .before .walk .result) (c3 .if1 .left) (c .before .walk .ensures)
+    (c .if2 .taken)
+
+guard-falls-requires : tie.Need-guard-falls-requires
+guard-falls-requires c κs = search needs
+
+raise-requires : tie.Need-raise-requires
+raise-requires c κs = search needs
+
+guard-holds-requires : tie.Need-guard-holds-requires
+guard-holds-requires c κs = search needs
+
+returns-3 : tie.Need-returns-3
+returns-3 c =
+    let c4 = c .before .before .before .before in
+    let c4 = c4 in
+    let c8 = c4 .before .before .before .before in
+    let c11 = c8 .before .before .before in
+    let a = c11 .before .before .args in
+    lapsed-guard (now (a .f)) (a .at) (a .c) (a .rises) (a .latest .values) (c8 .before .walk .result) (c11 .if1 .left) (c8 .before .walk .ensures)
+    (c .before .raise .result) (c4 .before .guard-falls .result) _ (c8 .if2 .left) (c .before .raise .ensures) (c4 .before .guard-falls .ensures)
+    (c4 .if3 .taken) (c .guard-holds .ensures)
+
+returns-4 : tie.Need-returns-4
+returns-4 c =
+    let c4 = c .before .before .before .before in
+    let c4 = c4 in
+    let c7 = c4 .before .before .before in
+    let a = c7 .before .before .args in
+    lapsed-not (now (a .f)) (a .at) (a .c) (a .rises) (a .latest .values) (c4 .before .walk .result) (c7 .if1 .left) (c4 .before .walk .ensures)
+    (c .before .guard-falls .result) (c4 .if2 .left) (c .before .guard-falls .ensures) (c .if3 .left)
+
+pub expired-spec : {M : Type 1} → statement M
+expired-spec =
+    tie.close
+    (tie.spec
+    returns
+    walk-requires
+    returns-2
+    guard-falls-requires
+    raise-requires
+    guard-holds-requires
+    returns-3
+    returns-4)

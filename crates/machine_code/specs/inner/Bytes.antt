@@ -1,0 +1,134 @@
+-- What the code computes on any bytes, well formed or not: a twin of each definition on byte lists.
+use Prim.Native.Nat.{ℕ, zero, suc, _+_, _*_, min}
+use mathlib.Core.Bool.{Bool, true, false, not, _&&_, _||_, cond}
+use mathlib.Core.List.{List}
+use lib.ListN.{length, getD, set, replicate}
+use lib.Dec.{ltb, leb, eqb}
+use Rattle.base.specs.Value.{valueAt}
+use Rattle.machine_code.specs.declared.Configuration.{Configuration}
+use Rattle.machine_code.specs.declared.Fired.{Fired}
+use Rattle.machine_code.specs.declared.Walked.{Walked}
+use Rattle.machine.specs.Configuration.{Config}
+use Rattle.guard_code.specs.inner.Bytes.{leafValue, guardAt, leafMarked, fallsAt}
+
+-- an operator's byte against two values; a byte above 5 counts as 5
+unfoldable pub holdsBy : ℕ → ℕ → ℕ → Bool
+holdsBy o x y =
+    cond (eqb o 0) (eqb x y) (cond (eqb o 1) (not (eqb x y)) (cond (eqb o 2) (ltb x y) (cond (eqb o 3) (ltb y x) (cond (eqb o 4) (leb x y) (leb y x)))))
+
+unfoldable pub missedBy : ℕ → ℕ → ℕ → Bool
+missedBy o x y = cond (eqb o 2) (not (ltb x y)) (cond (eqb o 4) (not (leb x y)) false)
+
+-- "12 TEST, 13 TESTV, 14 BIND"
+unfoldable pub isClause : ℕ → Bool
+isClause c = cond (ltb c 0x12) false (ltb c 0x15)
+
+-- a TEST or TESTV of a field's value x against y; `rises` says whether the field does
+unfoldable pub tested : Walked → ℕ → ℕ → ℕ → ℕ → Bool → Walked
+tested w next o x y rises = record {
+  at = next;
+  passes = w .passes && holdsBy o x y;
+  due = w .due || (rises && missedBy o x y);
+  held = w .held;
+  values = w .values;
+  grows = w .grows;
+}
+
+-- variable v holds x, unless it is held already
+unfoldable pub holding : Walked → ℕ → ℕ → Bool → Walked
+holding w v x rises =
+    cond (getD (w .held) v false) w
+    (record { at = w .at; passes = w .passes; due = w .due; held = set (w .held) v true; values = set (w .values) v x; grows = set (w .grows) v rises })
+
+-- a BIND of variable v to a field's value x
+abbrev pub boundIn : Walked → Walked → ℕ → ℕ → ℕ → Walked
+boundIn w d next v x = record {
+  at = next;
+  passes = w .passes && eqb x (getD (d .values) v 0);
+  due = d .due;
+  held = d .held;
+  values = d .values;
+  grows = d .grows;
+}
+
+unfoldable pub bound : Walked → ℕ → ℕ → ℕ → Bool → Walked
+bound w next v x rises = boundIn w (holding w v x rises) next v x
+
+-- the clause where the walk stands; `prior` are the values held before the step
+unfoldable pub clauseAt : List ℕ → List ℕ → List Bool → List ℕ → Walked → Walked
+clauseAt f prior rises event w =
+    cond (eqb (getD f (w .at) 0) 0x12)
+    (tested w (w .at + 7) (getD f (w .at + 2) 0) (getD event (getD f (w .at + 1) 0) 0) (valueAt f (w .at + 3)) (getD rises (getD f (w .at + 1) 0) false))
+    (cond (eqb (getD f (w .at) 0) 0x13)
+    (tested w (w .at + 4) (getD f (w .at + 2) 0) (getD event (getD f (w .at + 1) 0) 0) (getD prior (getD f (w .at + 3) 0) 0)
+    (getD rises (getD f (w .at + 1) 0) false))
+    (bound w (w .at + 3) (getD f (w .at + 2) 0) (getD event (getD f (w .at + 1) 0) 0) (getD rises (getD f (w .at + 1) 0) false)))
+
+-- the clauses from where the walk stands on, up to the first byte that is no clause's command
+unfoldable pub walkFrom : ℕ → List ℕ → List ℕ → List Bool → List ℕ → Walked → Walked
+walkFrom zero f prior rises event w = w
+walkFrom (suc n) f prior rises event w = cond (isClause (getD f (w .at) 0)) (walkFrom n f prior rises event (clauseAt f prior rises event w)) w
+
+-- a walk begins behind the STEP and its target, with what the configuration holds
+unfoldable pub begun : ℕ → Configuration → Walked
+begun at c = record { at = at + 2; passes = true; due = false; held = c .held; values = c .values; grows = c .held }
+
+-- the clauses of the STEP at an offset
+unfoldable pub walked : List ℕ → ℕ → Configuration → List Bool → List ℕ → Walked
+walked f at c rises event = walkFrom (suc (length f)) f (c .values) rises event (begun at c)
+
+-- one added to a state's counter; a counter stops at 4294967295
+unfoldable pub raised : List ℕ → ℕ → List ℕ
+raised counters s = set counters s (min (getD counters s 0 + 1) 4294967295)
+
+-- what a step leaves: its target, what the walk has bound, the counters raised
+abbrev pub leaving : ℕ → Walked → List ℕ → Configuration
+leaving target w counters = record { state = target; held = w .held; values = w .values; counters = counters }
+
+abbrev pub firedBy : List ℕ → ℕ → Walked → List ℕ → Fired
+firedBy f at w counters = record { fires = w .passes && guardAt (leafValue (w .values) counters) f (w .at); config = leaving (getD f (at + 1) 0) w counters }
+
+-- whether the STEP at an offset fires, and the configuration that it leaves; past the end there is no step
+unfoldable pub fired : List ℕ → ℕ → Configuration → List ℕ → Fired
+fired f at c event =
+    cond (leb (length f) at) (record { fires = false; config = c })
+    (firedBy f at (walked f at c (replicate 8 false) event) (raised (c .counters) (c .state)))
+
+-- the configuration that the code holds
+abbrev pub configOf : Configuration → Config
+configOf c = record { state = c .state; held = c .held; values = c .values; counters = c .counters }
+
+-- the STEP at an offset is expired by an event's values; past the end there is no step
+abbrev pub lapsedBy : List ℕ → List Bool → Walked → List ℕ → Bool
+lapsedBy f held w counters = w .due || (fallsAt (leafMarked held) (leafMarked (w .grows)) f (w .at) && not (guardAt (leafValue (w .values) counters) f (w .at)))
+
+unfoldable pub lapsed : List ℕ → ℕ → Configuration → List Bool → List ℕ → Bool
+lapsed f at c rises event = cond (leb (length f) at) true (lapsedBy f (c .held) (walked f at c rises event) (raised (c .counters) (c .state)))
+
+-- where step k of state s stands, by the table of offsets; 0 where there is none
+unfoldable pub offsetOf : List ℕ → ℕ → ℕ → ℕ
+offsetOf table s k = cond (leb 8 k) 0 (getD table (s * 8 + k) 0)
+
+unfoldable pub isStep : List ℕ → ℕ → Bool
+isStep f at = cond (eqb at 0) false (ltb at (length f))
+
+-- step k of the configuration's state fires on the event; it is expired by its values, as is one that is not there
+unfoldable pub firesAt : List ℕ → List ℕ → Configuration → List ℕ → ℕ → Bool
+firesAt f table c event k = isStep f (offsetOf table (c .state) k) && (fired f (offsetOf table (c .state) k) c event) .fires
+
+unfoldable pub expiresAt : List ℕ → List ℕ → Configuration → List Bool → List ℕ → ℕ → Bool
+expiresAt f table c rises event k = not (isStep f (offsetOf table (c .state) k)) || lapsed f (offsetOf table (c .state) k) c rises event
+
+-- "the lowest numbered step that fires": the first of n numbers from k on that passes the test, else the number behind them
+unfoldable pub lowestFrom : (ℕ → Bool) → ℕ → ℕ → ℕ
+lowestFrom p k zero = k
+lowestFrom p k (suc n) = cond (p k) k (lowestFrom p (suc k) n)
+
+-- among the 8 steps of a state; 8 where none fires
+unfoldable pub lowestOf : (ℕ → Bool) → ℕ
+lowestOf p = lowestFrom p 0 8
+
+-- some of the first n steps is not expired
+unfoldable pub aliveBelow : (ℕ → Bool) → ℕ → Bool
+aliveBelow p zero = false
+aliveBelow p (suc n) = not (p n) || aliveBelow p n

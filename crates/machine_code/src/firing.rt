@@ -1,0 +1,57 @@
+// Whether a step fires on an event, and the configuration that it leaves.
+use crate::Configuration;
+use crate::Fired;
+use crate::clauses::walk;
+use event_log::Event;
+use guard_code::guard::guard_holds;
+use guard_code::guard::sum;
+ghost use mathlib.Core.Path.{_≡_};
+ghost use Rattle.machine_code.specs.inner.Bytes.{raised, fired};
+
+// One added to a state's counter; a counter stops at 4294967295.
+pub fn raise(counters: [u32; 16], s: u32) -> [u32; 16]
+    ensures { λ r. ⌜ r ≡ raised counters s ⌝ }
+{
+    let i = s as usize;
+    let mut then = counters;
+    if i < 16 {
+        then[i] = sum(then[i], 1);
+        return then;
+    }
+    counters
+}
+
+// Whether the STEP at an offset fires on an event, and the configuration that it leaves.
+pub fn fire(f: &[u8], at: usize, c: Configuration, event: Event) -> Fired
+    ensures { λ r. ⌜ r ≡ fired (now (f .entry)) at c (event .values) ⌝ }
+{
+    if f.len() <= at {
+        return Fired {
+            fires: false,
+            config: c,
+        };
+    }
+    let target = base::byte_at(f, at + 1);
+    let fields = event.values;
+    let w = walk(f, at, c, [false; 8], fields);
+    let held = w.held;
+    let values = w.values;
+    let old = c.counters;
+    let counters = raise(old, c.state);
+    let config = Configuration {
+        state: target,
+        held,
+        values,
+        counters,
+    };
+    if w.passes {
+        return Fired {
+            fires: guard_holds(f, w.at, values, counters),
+            config,
+        };
+    }
+    Fired {
+        fires: false,
+        config,
+    }
+}

@@ -1,0 +1,108 @@
+// The steps of a configuration's state, by their offsets: step k of state s stands in the table at s * 8 + k, 0 where there is none.
+use crate::Configuration;
+use crate::clauses::begin;
+use crate::clauses::clause;
+use crate::clauses::is_clause;
+use crate::expiring::expired;
+use crate::firing::raise;
+use event_log::Event;
+use event_log::Latest;
+use guard_code::guard::guard_holds;
+ghost use mathlib.Core.Path.{_≡_};
+ghost use mathlib.Core.Bool.{not};
+ghost use Rattle.machine_code.specs.inner.Bytes.{offsetOf, isStep, firesAt, lowestOf, expiresAt, aliveBelow};
+
+// Where step k of state s stands, 0 where there is none.
+pub fn step_offset(table: &[usize], s: u32, k: usize) -> usize
+    ensures { λ r. ⌜ r ≡ offsetOf (now (table .entry)) s k ⌝ }
+{
+    if 8 <= k {
+        return 0;
+    }
+    let i = (s as usize) * 8 + k;
+    if i < table.len() {
+        return table[i];
+    }
+    0
+}
+
+// Whether an offset is that of a step.
+fn is_step(f: &[u8], at: usize) -> bool
+    ensures { λ r. ⌜ r ≡ isStep (now (f .entry)) at ⌝ }
+{
+    if at == 0 {
+        return false;
+    }
+    at < f.len()
+}
+
+// The number of the lowest numbered step of the configuration's state that fires on the event, 8 where none does.
+pub fn lowest(f: &[u8], table: &[usize], c: Configuration, event: Event) -> usize
+    ensures { λ r. ⌜ r ≡ lowestOf (firesAt (now (f .entry)) (now (table .entry)) c (event .values)) ⌝ }
+{
+    let fields = event.values;
+    let prior = c.values;
+    let old = c.counters;
+    let counters = raise(old, c.state);
+    let mut next: usize = 0;
+    'steps: loop {
+        let k = next;
+        if 8 <= k {
+            break 'steps 8;
+        }
+        next += 1;
+        let at = step_offset(table, c.state, k);
+        if !is_step(f, at) {
+            continue 'steps;
+        }
+        let mut w = begin(at, c);
+        while is_clause(f, w.at) {
+            w = clause(f, w, prior, [false; 8], fields);
+            if !w.passes {
+                continue 'steps;
+            }
+        }
+        let values = w.values;
+        if guard_holds(f, w.at, values, counters) {
+            break 'steps k;
+        }
+    }
+}
+
+// Whether step k of the configuration's state is there and not expired by these values.
+fn alive(
+    f: &[u8],
+    table: &[usize],
+    c: Configuration,
+    rises: [bool; 8],
+    latest: Latest,
+    k: usize,
+) -> bool
+    ensures { λ r. ⌜ r ≡ not (expiresAt (now (f .entry)) (now (table .entry)) c rises (latest .values) k) ⌝ }
+{
+    let at = step_offset(table, c.state, k);
+    if is_step(f, at) {
+        return !expired(f, at, c, rises, latest);
+    }
+    false
+}
+
+// Whether some step of the configuration's state is not expired by these values.
+pub fn hopeful(
+    f: &[u8],
+    table: &[usize],
+    c: Configuration,
+    rises: [bool; 8],
+    latest: Latest,
+) -> bool
+    ensures { λ r. ⌜ r ≡ aliveBelow (expiresAt (now (f .entry)) (now (table .entry)) c rises (latest .values)) 8 ⌝ }
+{
+    let mut k: usize = 0;
+    while k < 8 {
+        if alive(f, table, c, rises, latest, k) {
+            return true;
+        }
+        k += 1;
+    }
+    false
+}

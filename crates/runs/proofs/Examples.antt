@@ -1,0 +1,57 @@
+-- The definitions compute: of two runs that end on one event the longer comes first, and one slot is too few for it.
+use mathlib.Core.Path.{_≡_, refl}
+use mathlib.Core.Bool.{Bool, true, false, _&&_, Bool·beq}
+use mathlib.Core.Option.{Option, none, some}
+use mathlib.Core.List.{[], _∷_}
+use Prim.Native.Nat.{ℕ, zero, suc}
+use lib.Dec.{eqb}
+use Rattle.runs.specs.Machine.{Machine}
+use Rattle.runs.specs.inner.Lists.{keep, gather, has, distinct}
+use Rattle.runs.specs.inner.Order.{lex, order}
+use Rattle.runs.specs.Answer.{found, crowded}
+use Rattle.runs.specs.inner.Search.{firing, moves, stays, unended, offers, next, endings, lesser, leastFrom, least, anyAlive, hopeful, waiting, waitingCount, scan, origin, search}
+use Rattle.runs.specs.inner.Threads.{candidates, insert, insertWithin, follow, threads}
+
+-- on three events, step 0 always fires and goes on, step 1 fires on event 2 and ends: a configuration is told by the number
+-- of steps taken and by whether it has ended
+record Place : Type 0 where
+  taken : ℕ
+  over : Bool
+
+abbrev ends : Place → Bool → Option Place
+ends c true = some (record { taken = suc (c .taken); over = true })
+ends c false = none
+
+abbrev goes : Place → ℕ → ℕ → Option Place
+goes c n zero = some (record { taken = suc (c .taken); over = false })
+goes c n (suc k) = ends c (eqb n 2)
+
+abbrev late : Machine
+late =
+    record {
+      Config = Place;
+      same = λ c d. eqb (c .taken) (d .taken) && Bool·beq (c .over) (d .over);
+      start = record { taken = 0; over = false };
+      committed = λ c. false;
+      final = λ c. c .over;
+      fire = goes;
+      expired = λ c k n. false;
+      steps = 2;
+      events = 3;
+    }
+
+-- events 0, 1, 2 come before events 0, 2; two wait after event 1
+longer-first : search late 2 0 ≡ found (record {
+  taken =
+      3;
+  over = true;
+}) (record { event = 0; step = 0 } ∷ (record { event = 1; step = 0 } ∷ (record { event = 2; step = 1 } ∷ []))) 2
+unfolding keep gather lex order firing moves stays unended offers next endings lesser leastFrom least anyAlive hopeful origin has distinct waiting waitingCount
+    scan search
+longer-first = refl
+
+-- with one slot the search is crowded after event 1
+one-slot : threads late 1 0 ≡ crowded 1
+unfolding keep gather lex order firing moves stays unended offers next endings lesser leastFrom least anyAlive hopeful origin candidates insert insertWithin
+    follow threads
+one-slot = refl

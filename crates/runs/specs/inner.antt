@@ -1,0 +1,6 @@
+-- Vocabulary of inner contracts; nothing to be believed stands here.
+pub mod Lists
+pub mod Laws
+pub mod Order
+pub mod Search
+pub mod Threads

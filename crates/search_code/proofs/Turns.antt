@@ -1,0 +1,122 @@
+-- One event of a search: what the least ending and the next waiting list make of it, and the search's answer from event to event.
+use Prim.Native.Nat.{ℕ, _+_, _-_, _≤_, _<_, max}
+use mathlib.Core.Path.{_≡_, sym, ap, _∙_, subst}
+use mathlib.Core.Bool.{true, false, cond}
+use mathlib.Core.Logic.{inl, inr}
+use mathlib.Core.List.{List, [], _∷_}
+use mathlib.Core.Option.{none}
+use native.Mathlib.Omega.{arith}
+use lib.ListN.{length, getD}
+use lib.Dec.{eqb}
+use Rattle.refusal.specs.declared.Refusal.the-variants.{Crowded as CrowdedAt}
+use Rattle.event_log.specs.declared.Loaded.{Loaded}
+use Rattle.event_log.specs.Log.{Log}
+use Rattle.event_log.specs.Event.{loadedAt, Leads}
+use Rattle.formula.specs.Formula.{Formula}
+use Rattle.runs.specs.inner.Search as Runs
+use Rattle.machine.specs.Machine.{machine}
+use Rattle.slots.specs.inner.Threads.{originThread}
+use Rattle.slots.specs.inner.Words.{list}
+use Rattle.threads.specs.declared.Best.{Best}
+use Rattle.threads.specs.declared.Rules.{Rules}
+use Rattle.threads.specs.declared.Moment.{Moment}
+use Rattle.threads.specs.declared.Seats.{Seats}
+use Rattle.threads.specs.inner.Setting.{Setting, EventTable, Scene}
+use Rattle.threads.specs.inner.Event.{Kept, waitingIn, bestBy, EndingIs, AdvancedTo, AdvancedIs}
+use Rattle.search.specs.declared.Verdict.the-variants.{Absent}
+use Rattle.search.specs.declared.SearchAnswer.{SearchAnswer}
+use Rattle.search_code.specs.declared.Outcome.the-variants.{Found, Crowded, Waiting}
+use Rattle.search_code.specs.declared.Turn.{Turn}
+use Rattle.search.specs.Search.{without, refusal}
+use Rattle.search_code.specs.inner.Turn.{momentOf, namedAnswer, TurnTo, TurnIs, TurnOf, SearchedFrom}
+use Rattle.search_code.proofs.Loop.{event-there, Going, going-start, going-next, going-onward, going-found, going-crowded, going-over}
+
+module _ (f table : List ℕ) (rules : Rules) (m : Moment) (z : Seats) (before after : List ℕ) (b : Best) (e : EndingIs f table rules m z before b) where
+  -- a run ends on the event
+  pub found-turn : b .found ≡ true → TurnIs f table rules m z before after (record { outcome = Found; thread = b .thread })
+  found-turn q g fm s k = let h = e g fm s k in (sym (h .0) ∙ ap (λ x. bestBy g fm x (b .thread)) q, h .1 q)
+
+  no-ending : b .found ≡ false → (g : Log) (fm : Formula) → Scene g fm f table rules m → Kept fm (z .half) (z .count) before
+      → Runs.least (machine g fm) (Runs.endings (machine g fm) (m .number) (waitingIn g fm (z .half) (z .count) before)) ≡ none
+  no-ending q g fm s k = sym (e g fm s k .0) ∙ ap (λ x. bestBy g fm x (b .thread)) q
+
+  -- no run ends on it, and more wait after it than there are slots
+  pub crowded-turn : (more : ℕ) → b .found ≡ false → AdvancedIs f table rules m z before after more → z .slots < more
+      → TurnIs f table rules m z before after (record { outcome = Crowded; thread = b .thread })
+  crowded-turn more q a h g fm s k = go (a g fm s k)
+    where
+      go : AdvancedTo g fm (m .number) z before after more → TurnTo g fm (z .half) (z .count) (z .slots) (m .number) before after (b .thread) Crowded
+      go (inl x) = absurd (omega (arith, x .0))
+      go (inr x) = (no-ending q g fm s k, x .1)
+
+  -- no run ends on it, and the next waiting list has room
+  pub next-turn : (more : ℕ) → b .found ≡ false → AdvancedIs f table rules m z before after more → more ≤ z .slots
+      → TurnIs f table rules m z before after (record { outcome = Waiting more; thread = b .thread })
+  next-turn more q a h g fm s k = go (a g fm s k)
+    where
+      go : AdvancedTo g fm (m .number) z before after more → TurnTo g fm (z .half) (z .count) (z .slots) (m .number) before after (b .thread) (Waiting more)
+      go (inl x) = (no-ending q g fm s k, x .1, x .2)
+      go (inr x) = absurd (omega (arith, x .0))
+
+-- the event's table, from the table of the formula's steps
+pub turn-of : (f steps : List ℕ) (rules : Rules) (m : Moment) (z : Seats) (before after table : List ℕ) (r : Turn) → EventTable f steps (rules .rises) m table
+    → TurnIs f table rules m z before after r → TurnOf f steps rules m z before after r
+turn-of f steps rules m z before after table r o t g fm s l k =
+    let setting = subst (λ (x : List ℕ). Setting g fm f x rules) (s .table-is) s in
+    t g fm (record { setting = setting; loads = l; offsets = subst (λ (x : List ℕ). EventTable f x (rules .rises) m table) (s .table-is) o }) k
+
+-- before event n, of whatever log and formula the bytes are
+abbrev pub Searching : List ℕ → ℕ → ℕ → List ℕ → List ℕ → List ℕ → Rules → ℕ → ℕ → ℕ → ℕ → ℕ → ℕ → List ℕ → Type 0
+Searching l fields events places f table rules i slots n half count width work =
+    (g : Log) (fm : Formula) → Setting g fm f table rules → Leads l places g → fields ≡ length (g .fields) → events ≡ length (g .events) → i < events
+    → Going g fm slots i n half count width work
+
+module _ (l : List ℕ) (fields events : ℕ) (places f table : List ℕ) (rules : Rules) (i slots : ℕ) where
+  pub searching-start : (work : List ℕ) → list 0 1 work ≡ originThread ∷ [] → Searching l fields events places f table rules i slots i 0 1 0 work
+  searching-start work o g fm s e a b h = going-start g fm f table rules s slots i work (omega arith) o
+
+  module _ (n half count width : ℕ) (work : List ℕ) (S : Searching l fields events places f table rules i slots n half count width work) where
+    -- the log is over
+    pub searching-over : (r : SearchAnswer) → events ≤ n → width ≤ slots → r ≡ without Absent width
+        → SearchedFrom l fields events places f table rules i slots r × (r .width ≤ slots)
+    searching-over r h w q = (
+      λ g fm s e a b k. q ∙ going-over g fm f table rules s slots i n half count width work (S g fm s e a b k) (omega arith),
+      omega
+          (arith, ap (λ (x : SearchAnswer). x .width) q),
+    )
+
+    module _ (more : n < events) (loaded : Loaded) (there : loaded ≡ loadedAt l fields (getD places n 0)) (after : List ℕ) (turn : Turn) (is : TurnOf f table rules (momentOf n (loaded .event)) (record {
+      half =
+          half;
+      count = count;
+      slots = slots;
+    }) work after turn) where
+      -- what the event does
+      turned : (g : Log) (fm : Formula) → Setting g fm f table rules → Leads l places g → fields ≡ length (g .fields) → events ≡ length (g .events) → i < events
+          → TurnTo g fm half count slots n work after (turn .thread) (turn .outcome)
+      turned g fm s e a b k = is g fm s (event-there g l places fields n loaded (s .log) e a (omega arith) there) (S g fm s e a b k .kept)
+
+      pub searching-next : (m n′ : ℕ) → turn .outcome ≡ Waiting m → n′ ≡ cond (eqb m 0) events (n + 1)
+          → Searching l fields events places f table rules i slots n′ (1 - half) m (max width m) after
+      searching-next m n′ q o g fm s e a b k =
+          let x = subst (TurnTo g fm half count slots n work after (turn .thread)) q (turned g fm s e a b k) in
+          let go = going-next g fm f table rules s slots i n half count width work (S g fm s e a b k) m (turn .thread) after (omega arith) x in
+          going-onward g fm slots i (n + 1) (1 - half) m (max width m) after n′ (o ∙ ap (λ y. cond (eqb m 0) y (n + 1)) b) go
+
+      pub searching-found : (r : SearchAnswer) → turn .outcome ≡ Found → width ≤ slots → r ≡ namedAnswer (rules .kinds) (turn .thread) width
+          → SearchedFrom l fields events places f table rules i slots r × (r .width ≤ slots)
+      searching-found r q w z = (
+        λ g fm s e a b k.
+            let x = subst (TurnTo g fm half count slots n work after (turn .thread)) q (turned g fm s e a b k) in
+            z ∙ going-found g fm f table rules s slots i n half count width work (S g fm s e a b k) (turn .thread) after (omega arith) x,
+        omega (arith, ap (λ (x : SearchAnswer). x .width) z),
+      )
+
+      pub searching-crowded : (r : SearchAnswer) → turn .outcome ≡ Crowded → r ≡ refusal (CrowdedAt n)
+          → SearchedFrom l fields events places f table rules i slots r × (r .width ≤ slots)
+      searching-crowded r q z = (
+        λ g fm s e a b k.
+            let x = subst (TurnTo g fm half count slots n work after (turn .thread)) q (turned g fm s e a b k) in
+            z ∙ going-crowded g fm f table rules s slots i n half count width work (S g fm s e a b k) (turn .thread) after (omega arith) x,
+        omega (arith, ap (λ (x : SearchAnswer). x .width) z),
+      )

@@ -1,0 +1,52 @@
+-- `search_code::at_event` meets its contract: what the event alone says is told in its table, then it is the event.
+use denote.Ref.{now}
+use Rattle.threads.proofs.Marking.{wide-table, wide-steps}
+use Rattle.search_code.proofs.Turns.{turn-of}
+use borrow.Author.Needs.{needs}
+use Rattle.search_code.proofs.at_event.Statement.{statement}
+use Rattle.search_code.proofs.at_event.Tie as tie
+
+slice-aggregate-mark-states : tie.Need-slice-aggregate-mark-states
+slice-aggregate-mark-states c = search needs
+
+slice-aggregate-mark-states-2 : tie.Need-slice-aggregate-mark-states-2
+slice-aggregate-mark-states-2 c = search needs
+
+mark-states-requires : tie.Need-mark-states-requires
+mark-states-requires c κs = search needs
+
+slice-aggregate-one-event : tie.Need-slice-aggregate-one-event
+slice-aggregate-one-event c = search needs
+
+one-event-requires : tie.Need-one-event-requires
+one-event-requires c κs = search needs
+
+same-length : tie.Need-same-length
+same-length c = search needs
+
+returns : tie.Need-returns
+returns c =
+    let c6 = c .before .before .before .before .before .before in
+    let c13 = c6 .before .before .before .before .before .before .before in
+    let a = c13 .args in
+    let f = now (a .f) in
+    let rises = a .rules .rises in
+    let m = a .moment in
+    let x = c .before .before .one-event in (
+      λ steps w.
+          let e = wide-steps f steps rises m (a .t4) w _ (c6 .mark-states .ensures .1 (wide-table f steps rises m (a .t4) w)) in
+          turn-of f steps (a .rules) m (a .seats) (now (a .work)) (x .last .0) _ (x .result) e (x .ensures .0),
+      x .ensures .1,
+    )
+
+pub at-event-spec : {M : Type 1} → statement M
+at-event-spec =
+    tie.close
+    (tie.spec
+    slice-aggregate-mark-states
+    slice-aggregate-mark-states-2
+    mark-states-requires
+    slice-aggregate-one-event
+    one-event-requires
+    same-length
+    returns)

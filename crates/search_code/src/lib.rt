@@ -1,0 +1,344 @@
+// The search for the least run from one event of a log.
+use event_log::Event;
+use event_log::Latest;
+use event_log::LogReading;
+use formula_code::FormulaReading;
+use refusal::Refusal;
+use search::SearchAnswer;
+use search::Verdict;
+use slots::Thread;
+use threads::Moment;
+use threads::Rules;
+use threads::Seats;
+ghost use mathlib.Core.Path.{_≡_};
+ghost use mathlib.Core.Bool.{cond};
+ghost use mathlib.Core.List.{List, [], _∷_};
+ghost use Prim.Native.Nat.{ℕ, _+_, _*_, _≤_, _<_, max};
+ghost use lib.ListN.{length};
+ghost use lib.Dec.{eqb};
+ghost use Rattle.slots.specs.inner.Threads.{originThread};
+ghost use Rattle.slots.specs.inner.Words.{list};
+ghost use Rattle.search.specs.Search.{slotsOf, without, refusal};
+ghost use Rattle.search.specs.Call.{Searched};
+ghost use Rattle.search_code.specs.inner.Turn.{entriesOf, verdictAt, namedAnswer, momentOf, TurnIs, TurnOf, Fits, SearchedFrom};
+ghost use Rattle.threads.specs.inner.Setting.{Wide};
+ghost use Rattle.threads.specs.inner.Event.{Seated};
+ghost use Rattle.search_code.specs.inner.Checks.{CheckedIs, refusalOfLog, refusalOfFormula};
+
+// What one event does to a search: a run ends on it, more wait than there are slots, or so many wait after it.
+enum Outcome {
+    Found,
+    Crowded,
+    Waiting(usize),
+}
+
+// The outcome, and the thread of the run that was found.
+struct Turn {
+    outcome: Outcome,
+    thread: Thread,
+}
+
+// A trail's number of steps, their events and their step numbers, unused entries 0.
+struct Entries {
+    steps: usize,
+    events: [u32; 32],
+    numbers: [u32; 32],
+}
+
+// The waiting list before the first event: the start configuration, in slot 0.
+fn origin_in(work: &mut [u32])
+    requires { ⌜ 192 ≤ length (now work) ⌝ }
+    ensures { λ _. ⌜ (list 0 1 (now (work .exit)) ≡ originThread ∷ []) × (length (now (work .exit)) ≡ length (now (work .entry))) ⌝ }
+{
+    slots::store_slot(work, 0, 0, slots::origin());
+}
+
+// The events and step numbers of a thread's trail.
+fn entries_of(t: Thread) -> Entries
+    ensures { λ r. ⌜ r ≡ entriesOf t ⌝ }
+{
+    let trail = t.trail;
+    let steps = slots::capped(t.steps);
+    let mut events = [0u32; 32];
+    let mut numbers = [0u32; 32];
+    let mut k: usize = 0;
+    while k < steps {
+        events[k] = trail[k] / 8;
+        numbers[k] = trail[k] % 8;
+        k += 1;
+    }
+    Entries {
+        steps,
+        events,
+        numbers,
+    }
+}
+
+// What a run says that ends in a state.
+fn verdict_at(rules: Rules, state: u32) -> Verdict
+    ensures { λ r. ⌜ r ≡ verdictAt (rules .kinds) state ⌝ }
+{
+    let at = state as usize;
+    if 16 <= at {
+        return Verdict::Reject;
+    }
+    if rules.kinds[at] == 2 {
+        Verdict::Accept
+    } else {
+        Verdict::Reject
+    }
+}
+
+// The answer that names the trail of the turn's thread as the run.
+fn named(turn: Turn, rules: Rules, width: usize) -> SearchAnswer
+    ensures { λ r. ⌜ r ≡ namedAnswer (rules .kinds) (turn .thread) width ⌝ }
+{
+    let t = turn.thread;
+    let entries = entries_of(t);
+    let events = entries.events;
+    let numbers = entries.numbers;
+    let config = t.config;
+    let held = config.held;
+    let values = config.values;
+    SearchAnswer {
+        verdict: verdict_at(rules, config.state),
+        steps: entries.steps,
+        events,
+        numbers,
+        held,
+        values,
+        width,
+    }
+}
+
+// The answer without a run.
+fn no_run(verdict: Verdict, width: usize) -> SearchAnswer
+    ensures { λ r. ⌜ r ≡ without verdict width ⌝ }
+{
+    SearchAnswer {
+        verdict,
+        steps: 0,
+        events: [0u32; 32],
+        numbers: [0u32; 32],
+        held: [false; 8],
+        values: [0u32; 8],
+        width,
+    }
+}
+
+// The answer of a refused call.
+fn refused(r: Refusal) -> SearchAnswer
+    ensures { λ a. ⌜ a ≡ refusal r ⌝ }
+{
+    no_run(Verdict::Refused(r), 0)
+}
+
+// The larger of two counts.
+fn larger(a: usize, b: usize) -> usize
+    ensures { λ r. ⌜ r ≡ max a b ⌝ }
+{
+    if a < b { b } else { a }
+}
+
+// Event n and the values by which steps are judged expired after it: its own, as it has a value for each field.
+fn moment_of(n: usize, event: Event) -> Moment
+    requires { ⌜ n < 1024 ⌝ }
+    ensures { λ r. ⌜ r ≡ momentOf n event ⌝ }
+{
+    let values = event.values;
+    let latest = Latest { values };
+    Moment {
+        number: n as u32,
+        event,
+        latest,
+    }
+}
+
+// One event: the least run that ends on it; else the waiting list after it, in the other half, or crowded.
+fn one_event(
+    work: &mut [u32],
+    seats: Seats,
+    f: &[u8],
+    table: &[usize],
+    rules: Rules,
+    moment: Moment,
+) -> Turn
+    requires { ⌜ Seated seats (now work) × (moment .number < 1024) ⌝ }
+    ensures { λ r. ⌜ TurnIs (now (f .entry)) (now (table .entry)) rules moment seats (now (work .entry)) (now (work .exit)) r ⌝ }
+    ensures { λ r. ⌜ Fits (seats .slots) (r .outcome) × (length (now (work .exit)) ≡ length (now (work .entry))) ⌝ }
+{
+    let best = threads::ending(work, seats, f, table, rules, moment);
+    let thread = best.thread;
+    if best.found {
+        return Turn {
+            outcome: Outcome::Found,
+            thread,
+        };
+    }
+    let more = threads::advance(work, seats, f, table, rules, moment);
+    if seats.slots < more {
+        return Turn {
+            outcome: Outcome::Crowded,
+            thread,
+        };
+    }
+    Turn {
+        outcome: Outcome::Waiting(more),
+        thread,
+    }
+}
+
+// One event, with what it alone says of the steps told first: `wide` has the table of the steps in both halves.
+fn at_event(
+    work: &mut [u32],
+    seats: Seats,
+    f: &[u8],
+    wide: [usize; 256],
+    rules: Rules,
+    moment: Moment,
+) -> Turn
+    requires { ⌜ Seated seats (now work) × (moment .number < 1024) ⌝ }
+    ensures { λ r. ⌜ ((steps : List ℕ) → Wide steps wide → TurnOf (now (f .entry)) steps rules moment seats (now (work .entry)) (now (work .exit)) r) ⌝ }
+    ensures { λ r. ⌜ Fits (seats .slots) (r .outcome) × (length (now (work .exit)) ≡ length (now (work .entry))) ⌝ }
+{
+    let rises = rules.rises;
+    let mut table = wide;
+    threads::table::mark_states(&mut table, &work[..], seats, f, &wide, rises, moment);
+    one_event(work, seats, f, &table, rules, moment)
+}
+
+// The next event to look at: none any more where nobody waits.
+fn onward(n: usize, more: usize, events: usize) -> usize
+    requires { ⌜ n < events ⌝ }
+    ensures { λ r. ⌜ (r ≡ cond (eqb more 0) events (n + 1)) × (n < r) ⌝ }
+{
+    if more == 0 { events } else { n + 1 }
+}
+
+// The search from one event of an accepted log with an accepted formula, event by event.
+pub fn search_from(
+    l: &[u8],
+    fields: usize,
+    events: usize,
+    places: &[usize; 1024],
+    f: &[u8],
+    table: &[usize; 128],
+    rules: Rules,
+    start: usize,
+    slots: usize,
+    work: &mut [u32],
+) -> SearchAnswer
+    requires { ⌜ (slots * 192 ≤ length (now work)) × (1 ≤ slots) × (events ≤ 1024) ⌝ }
+    ensures { λ r. ⌜ SearchedFrom (now (l .entry)) fields events (now (places .entry)) (now (f .entry)) (now (table .entry)) rules start slots r × ((r .width ≤ slots) × (length (now (work .exit)) ≡ length (now (work .entry)))) ⌝ }
+{
+    origin_in(work);
+    let wide = threads::table::widened(table);
+    let mut half: usize = 0;
+    let mut count: usize = 1;
+    let mut width: usize = 0;
+    let mut n = start;
+    while n < events {
+        let loaded = event_log::event_at(l, fields, places[n]);
+        let event = loaded.event;
+        let seats = Seats { half, count, slots };
+        let turn = at_event(work, seats, f, wide, rules, moment_of(n, event));
+        let outcome = turn.outcome;
+        match outcome {
+            Outcome::Found => return named(turn, rules, width),
+            Outcome::Crowded => return refused(Refusal::Crowded { place: n }),
+            Outcome::Waiting(more) => {
+                count = more;
+                width = larger(width, more);
+                half = 1 - half;
+                n = onward(n, more, events);
+            }
+        }
+    }
+    no_run(Verdict::Absent, width)
+}
+
+// The number of slots in so many words.
+pub fn slots_of(words: usize) -> usize
+    ensures { λ r. ⌜ r ≡ slotsOf words ⌝ }
+{
+    let slots = words / 192;
+    if slots < 64 { slots } else { 64 }
+}
+
+// A call whose log and formula are accepted: the start and the lent words are checked, then the search runs.
+fn checked(
+    l: &[u8],
+    log: LogReading,
+    f: &[u8],
+    formula: FormulaReading,
+    start: usize,
+    work: &mut [u32],
+) -> SearchAnswer
+    requires { ⌜ log .events ≤ 1024 ⌝ }
+    ensures { λ r. ⌜ CheckedIs (now (l .entry)) log (now (f .entry)) formula start (now (work .entry)) (now (work .exit)) r ⌝ }
+    ensures { λ r. ⌜ (length (now (work .exit)) ≡ length (now (work .entry))) × (r .width ≤ slotsOf (length (now (work .entry)))) ⌝ }
+{
+    let events = log.events;
+    if events <= start {
+        return refused(Refusal::Outside { start });
+    }
+    let words = work.len();
+    if words < 192 {
+        return refused(Refusal::Short { needed: 192 });
+    }
+    let places = log.places;
+    let table = formula.table;
+    let kinds = formula.kinds;
+    let rises = log.rises;
+    let rules = Rules { kinds, rises };
+    let slots = slots_of(words);
+    search_from(
+        l,
+        log.fields,
+        events,
+        &places,
+        f,
+        &table,
+        rules,
+        start,
+        slots,
+        work,
+    )
+}
+
+// The refusal of a log that was not accepted.
+pub fn refusal_of_log(v: event_log::Verdict) -> Refusal
+    ensures { λ r. ⌜ r ≡ refusalOfLog v ⌝ }
+{
+    match v {
+        event_log::Verdict::Refused(r) => r,
+        event_log::Verdict::Accepted => Refusal::DeadStart,
+    }
+}
+
+// The refusal of a formula that was not accepted.
+pub fn refusal_of_formula(v: formula_code::Verdict) -> Refusal
+    ensures { λ r. ⌜ r ≡ refusalOfFormula v ⌝ }
+{
+    match v {
+        formula_code::Verdict::Refused(r) => r,
+        formula_code::Verdict::Accepted => Refusal::DeadStart,
+    }
+}
+
+// The search from an event, over the bytes of the two files, with threads in the lent words.
+pub fn search(l: &[u8], f: &[u8], start: usize, work: &mut [u32]) -> SearchAnswer
+    ensures { λ r. ⌜ Searched (now (l .entry)) (now (f .entry)) start (now (work .entry)) (now (work .exit)) r ⌝ }
+{
+    let log = event_log::read_log(l);
+    let log_verdict = log.verdict;
+    let event_log::Verdict::Accepted = log_verdict else {
+        return refused(refusal_of_log(log_verdict));
+    };
+    let formula = formula_code::read_formula(f, log.fields);
+    let formula_verdict = formula.verdict;
+    let formula_code::Verdict::Accepted = formula_verdict else {
+        return refused(refusal_of_formula(formula_verdict));
+    };
+    checked(l, log, f, formula, start, work)
+}

@@ -1,0 +1,92 @@
+-- A thread (a configuration with its least trail) as a struct: its trail, telling configurations apart, inserting into a list.
+use Prim.Native.Nat.{ℕ, zero, suc, _+_, _*_, _/_, _%_, Ordering, Ordering·lt, Ordering·eq, Ordering·gt}
+use mathlib.Core.Path.{_≡_}
+use mathlib.Core.Bool.{Bool, true, false}
+use mathlib.Core.List.{List, [], _∷_, _++_, map}
+use lib.ListN.{length, take, set, replicate}
+use Rattle.runs.specs.Run.{Entry, Trail}
+use Rattle.runs.specs.inner.Order.{order}
+use Rattle.machine.specs.Configuration.{same}
+use Rattle.machine_code.specs.declared.Configuration.{Configuration}
+use Rattle.machine_code.specs.inner.Bytes.{configOf}
+use Rattle.slots.specs.declared.Thread.{Thread}
+use Rattle.slots.specs.declared.Side.{Side}
+use Rattle.slots.specs.declared.Side.the-variants.{Lesser, Equal, Greater}
+
+-- "The start configuration holds nothing, with counters 0": the thread before the first step
+abbrev pub originThread : Thread
+originThread =
+    record { config = record { state = 0; held = replicate 8 false; values = replicate 8 0; counters = replicate 16 0 }; steps = 0; trail = replicate 32 0 }
+
+-- a trail word is event * 8 + step number
+abbrev pub entryOf : ℕ → Entry
+entryOf w = record { event = w / 8; step = w % 8 }
+
+-- the trail: as many entries as steps were taken
+unfoldable pub trailOf : Thread → Trail
+trailOf t = map entryOf (take (t .steps) (t .trail))
+
+-- the struct's arrays have their lengths, as every value of the struct does
+pub record Sized (t : Thread) : Type 0 where
+  pub held-8 : length (t .config .held) ≡ 8
+  pub values-8 : length (t .config .values) ≡ 8
+  pub counters-16 : length (t .config .counters) ≡ 16
+  pub trail-32 : length (t .trail) ≡ 32
+
+-- what a comparison says of the first against the second: it comes after
+abbrev pub comesAfter : Ordering → Bool
+comesAfter Ordering·lt = false
+comesAfter Ordering·eq = false
+comesAfter Ordering·gt = true
+
+abbrev pub replaced : Bool → Thread → Thread → Thread
+replaced true a b = b
+replaced false a b = a
+
+-- the lesser trail of two: b only where a comes after it
+unfoldable pub lesserThread : Thread → Thread → Thread
+lesserThread a b = replaced (comesAfter (order (trailOf a) (trailOf b))) a b
+
+abbrev pub placed : Bool → Thread → Thread → List Thread → List Thread → List Thread
+placed true a b rest further = lesserThread a b ∷ rest
+placed false a b rest further = a ∷ further
+
+-- the same configuration: the lesser trail is kept; else one thread more, at the end
+unfoldable pub insertThread : Thread → List Thread → List Thread
+insertThread b [] = b ∷ []
+insertThread b (a ∷ rest) = placed (same (configOf (a .config)) (configOf (b .config))) a b rest (insertThread b rest)
+
+abbrev pub foundOr : Bool → ℕ → ℕ
+foundOr true further = zero
+foundOr false further = suc further
+
+-- where the first thread with the configuration stands; the list's length where there is none
+unfoldable pub position : Configuration → List Thread → ℕ
+position c [] = zero
+position c (a ∷ rest) = foundOr (same (configOf (a .config)) (configOf c)) (position c rest)
+
+-- a thread with one step more in its trail; its configuration stays
+abbrev pub withStep : Thread → ℕ → ℕ → Thread
+withStep t event number = record { config = t .config; steps = t .steps + 1; trail = set (t .trail) (t .steps) (event * 8 + number) }
+
+pub record Extended (t : Thread) (event number : ℕ) (r : Thread) : Type 0 where
+  pub fields : r ≡ withStep t event number
+  pub trail : trailOf r ≡ trailOf t ++ (record { event = event; step = number } ∷ [])
+
+-- what a trail word is compared by: its step number, or its event
+abbrev pub key : Bool → ℕ → ℕ
+key true w = w % 8
+key false w = w / 8
+
+abbrev pub sideOf : Ordering → Side
+sideOf Ordering·lt = Lesser
+sideOf Ordering·eq = Equal
+sideOf Ordering·gt = Greater
+
+-- 'then by': the second comparison decides where the first is equal
+abbrev pub greaterOf : Side → Side → Bool
+greaterOf Lesser numbers = false
+greaterOf Greater numbers = true
+greaterOf Equal Lesser = false
+greaterOf Equal Equal = false
+greaterOf Equal Greater = true

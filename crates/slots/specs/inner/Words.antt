@@ -1,0 +1,59 @@
+-- 'A seat counts 192 lent work words of 32 bits': the words of a thread, and the threads of the slots (the paper's seats).
+use Prim.Native.Nat.{ℕ, zero, suc, _+_, _*_, _≤_, _<_}
+use mathlib.Core.Path.{_≡_}
+use mathlib.Core.Bool.{Bool, not}
+use mathlib.Core.List.{List, [], _∷_, _++_, map}
+use lib.ListN.{length, take, drop, getD}
+use lib.Dec.{eqb}
+use Rattle.machine.specs.Guard.{bit}
+use Rattle.slots.specs.declared.Thread.{Thread}
+use Rattle.slots.specs.inner.Threads.{insertThread}
+
+-- a word says that a variable is held: every word but 0 does
+abbrev pub isSet : ℕ → Bool
+isSet w = not (eqb w 0)
+
+-- the 66 words of a thread: state, 8 held (1, or 0 where not), 8 values, 16 counters, number of steps, 32 trail words
+unfoldable pub wordsOf : Thread → List ℕ
+wordsOf t = t .config .state ∷ (map bit (t .config .held) ++ (t .config .values ++ (t .config .counters ++ (t .steps ∷ t .trail))))
+
+-- the thread that words begin with
+unfoldable pub threadOf : List ℕ → Thread
+threadOf ws =
+    record {
+      config = record { state = getD ws 0 0; held = map isSet (take 8 (drop 1 ws)); values = take 8 (drop 9 ws); counters = take 16 (drop 17 ws) };
+      steps = getD ws 33 0;
+      trail = take 32 (drop 34 ws);
+    }
+
+-- the thread whose words begin at an offset
+abbrev pub threadAt : List ℕ → ℕ → Thread
+threadAt l a = threadOf (drop a l)
+
+-- the list with words ws in place of as many from a on
+unfoldable pub put : List ℕ → ℕ → List ℕ → List ℕ
+put l a ws = take a l ++ (ws ++ drop (a + length ws) l)
+
+-- where a half of a slot begins: a slot is 192 words, two halves of 96
+abbrev pub place : ℕ → ℕ → ℕ
+place half slot = slot * 192 + half * 96
+
+-- the threads of n slots from slot k on, in one half
+unfoldable pub threadsFrom : ℕ → ℕ → ℕ → List ℕ → List Thread
+threadsFrom half k zero l = []
+threadsFrom half k (suc n) l = threadAt l (place half k) ∷ threadsFrom half (suc k) n l
+
+-- the threads of the first slots, in one half
+abbrev pub list : ℕ → ℕ → List ℕ → List Thread
+list half count l = threadsFrom half 0 count l
+
+-- What inserting thread b into the list of one half leaves. The answer r is the list's length then. Within the slots that list is
+-- there; beyond them every word stays. The threads of the other half stay, whichever slots they are in.
+pub record Inserted (half count slots : ℕ) (b : Thread) (before after : List ℕ) (r : ℕ) : Type 0 where
+  pub counted : r ≡ length (insertThread b (list half count before))
+  pub least : count ≤ r
+  pub most : r ≤ count + 1
+  pub listed : r ≤ slots → list half r after ≡ insertThread b (list half count before)
+  pub full : slots < r → after ≡ before
+  pub other : (half' k n : ℕ) → half' + half ≡ 1 → threadsFrom half' k n after ≡ threadsFrom half' k n before
+  pub sized : length after ≡ length before
