@@ -1,8 +1,6 @@
 // What an event alone says of a step: a TEST reads no variable, so one pass over a step's clauses serves every configuration.
 use crate::clauses::holds;
 use crate::clauses::missed;
-use event_log::Event;
-use event_log::Latest;
 use guard_code::guard::value_of;
 use guard_code::trends::mark_of;
 ghost use mathlib.Core.Path.{_≡_};
@@ -59,13 +57,12 @@ fn misses(f: &[u8], command: u32, place: usize, rises: &[bool], latest: &[u32]) 
 }
 
 // Whether a TEST of the STEP at an offset is false on the event: the step does not fire, whatever the configuration.
-pub fn barred(f: &[u8], at: usize, event: Event) -> bool
-    ensures { λ r. ⌜ BarredIs (now (f .entry)) at (event .values) r ⌝ }
+pub fn barred(f: &[u8], at: usize, event: &[u32]) -> bool
+    ensures { λ r. ⌜ BarredIs (now (f .entry)) at (now (event .entry)) r ⌝ }
 {
     if f.len() <= at {
         return false;
     }
-    let values = event.values;
     let mut place = at + 2;
     while place + 7 <= f.len() {
         let command = base::wide(f[place]);
@@ -73,7 +70,7 @@ pub fn barred(f: &[u8], at: usize, event: Event) -> bool
         if taken == 0 {
             return false;
         }
-        if fails(f, command, place, &values) {
+        if fails(f, command, place, event) {
             return true;
         }
         place = place + taken;
@@ -82,13 +79,12 @@ pub fn barred(f: &[u8], at: usize, event: Event) -> bool
 }
 
 // Whether a TEST of the STEP at an offset is past due by these values: the step is expired, whatever the configuration.
-pub fn due(f: &[u8], at: usize, rises: [bool; 8], latest: Latest) -> bool
-    ensures { λ r. ⌜ DueIs (now (f .entry)) at rises (latest .values) r ⌝ }
+pub fn due(f: &[u8], at: usize, rises: &[bool], latest: &[u32]) -> bool
+    ensures { λ r. ⌜ DueIs (now (f .entry)) at (now (rises .entry)) (now (latest .entry)) r ⌝ }
 {
     if f.len() <= at {
         return false;
     }
-    let values = latest.values;
     let mut place = at + 2;
     while place + 7 <= f.len() {
         let command = base::wide(f[place]);
@@ -96,7 +92,7 @@ pub fn due(f: &[u8], at: usize, rises: [bool; 8], latest: Latest) -> bool
         if taken == 0 {
             return false;
         }
-        if misses(f, command, place, &rises, &values) {
+        if misses(f, command, place, rises, latest) {
             return true;
         }
         place = place + taken;

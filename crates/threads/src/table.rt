@@ -7,7 +7,7 @@ ghost use mathlib.Core.Bool.{true, cond};
 ghost use Prim.Native.Nat.{_<_};
 ghost use lib.ListN.{length, getD};
 ghost use Rattle.threads.specs.inner.Event.{Seated};
-ghost use Rattle.threads.specs.inner.Setting.{Wide, MarkedIs};
+ghost use Rattle.threads.specs.inner.Setting.{Wide, MarkedBy, MarkedIs};
 
 // An entry of a table, 0 past its end.
 fn entry(steps: &[usize], i: usize) -> usize
@@ -43,16 +43,15 @@ fn mark_entry(
     i: usize,
     f: &[u8],
     steps: &[usize],
-    rises: [bool; 8],
-    moment: Moment,
+    rises: &[bool],
+    event: &[u32],
+    latest: &[u32],
 )
     requires { ⌜ (length (now table) ≡ 256) × (i < 128) ⌝ }
-    ensures { λ _. ⌜ MarkedIs (now (f .entry)) (now (steps .entry)) rises moment (now (table .entry)) (now (table .exit)) ⌝ }
+    ensures { λ _. ⌜ MarkedBy (now (f .entry)) (now (steps .entry)) (now (rises .entry)) (now (event .entry)) (now (latest .entry)) (now (table .entry)) (now (table .exit)) ⌝ }
 {
     let at = entry(steps, i);
-    let event = moment.event;
     if machine_code::marks::barred(f, at, event) {
-        let latest = moment.latest;
         table[i] = 0;
         table[128 + i] = unless(
             machine_code::marks::due(f, at, rises, latest),
@@ -73,9 +72,13 @@ fn mark_state(
     requires { ⌜ (length (now table) ≡ 256) × (s < 16) ⌝ }
     ensures { λ _. ⌜ MarkedIs (now (f .entry)) (now (steps .entry)) rises moment (now (table .entry)) (now (table .exit)) ⌝ }
 {
+    let event = moment.event;
+    let values = event.values;
+    let latest = moment.latest;
+    let last = latest.values;
     let mut k: usize = 0;
     while k < 8 {
-        mark_entry(table, s * 8 + k, f, steps, rises, moment);
+        mark_entry(table, s * 8 + k, f, steps, &rises, &values, &last);
         k += 1;
     }
 }

@@ -56,6 +56,12 @@ pub record Wide (steps table : List ℕ) : Type 0 where
   pub first : (i : ℕ) → i < 128 → getD table i 0 ≡ getD steps i 0
   pub second : (i : ℕ) → i < 128 → getD table (128 + i) 0 ≡ getD steps i 0
 
+-- what is told of a step by these values leaves it the table of an event that has them
+abbrev pub MarkedBy : List ℕ → List ℕ → List Bool → List ℕ → List ℕ → List ℕ → List ℕ → Type 0
+MarkedBy f steps rises event latest before after =
+    (length after ≡ length before)
+    × ((m : Moment) → m .event .values ≡ event → m .latest .values ≡ latest → EventTable f steps rises m before → EventTable f steps rises m after)
+
 -- what is told of some steps leaves it the event's table
 abbrev pub MarkedIs : List ℕ → List ℕ → List Bool → Moment → List ℕ → List ℕ → Type 0
 MarkedIs f steps rises m before after = (length after ≡ length before) × (EventTable f steps rises m before → EventTable f steps rises m after)

@@ -11,28 +11,24 @@ use Rattle.machine_code.proofs.marks.barred.Statement.{statement}
 use Rattle.machine_code.proofs.marks.barred.Tie as tie
 
 abbrev Inv-loop : tie.InvT-loop
-Inv-loop f at values place₀ place = (place ≤ length f + 1) × Reached f values at place
+Inv-loop f at event place₀ place = (place ≤ length f + 1) × Reached f event at place
 
 abbrev μ-loop : tie.MeasureT-loop
-μ-loop f at values place₀ place = length f - place
+μ-loop f at event place₀ place = length f - place
 
 returns : tie.Need-returns Inv-loop μ-loop
 returns c = λ e. absurd (false≢true e)
 
 add-place : tie.Need-add-place Inv-loop μ-loop
-add-place c =
-    let c3 = c .before .before .before in
-    omega (arith, c .before .if1 .left, c3 .good)
+add-place c = omega (arith, c .if1 .left, c .before .before .before .good)
 
 loop-holds : tie.Need-loop-holds Inv-loop μ-loop
 loop-holds c =
-    let c3 = c .before .before .before in
-    let a = c3 .args in (omega (arith, c .before .if1 .left), reach-start (now (a .f)) (a .event .values) (a .at))
+    let a = c .before .before .before .args in
+    (omega (arith, c .if1 .left), reach-start (now (a .f)) (now (a .event)) (a .at))
 
 add-loop : tie.Need-add-loop Inv-loop μ-loop
-add-loop c =
-    let c4 = c .before .before .before .before in
-    omega (arith, c .loop .inv .0, c4 .good)
+add-loop c = omega (arith, c .loop .inv .0, c .before .before .before .before .good)
 
 shared-slice-read-wide : tie.Need-shared-slice-read-wide Inv-loop μ-loop
 shared-slice-read-wide c = omega (arith, c .before .loop-test .taken)
@@ -46,72 +42,40 @@ width-requires c κs = search needs
 returns-2 : tie.Need-returns-2 Inv-loop μ-loop
 returns-2 c = λ e. absurd (false≢true e)
 
-slice-aggregate-fails : tie.Need-slice-aggregate-fails Inv-loop μ-loop
-slice-aggregate-fails c = search needs
-
 fails-requires : tie.Need-fails-requires Inv-loop μ-loop
-fails-requires c κs =
-    let c5 = c .before .before .before .before .before in
-    c5 .loop-test .taken
+fails-requires c κs = c .before .before .before .before .loop-test .taken
 
 returns-3 : tie.Need-returns-3 Inv-loop μ-loop
 returns-3 c =
-    let c3 = c .before .before .before in
-    let c4 = c3 .before in
-    let c5 = c4 .before in
-    let c8 = c5 .before .before .before in
-    let c12 = c8 .before .before .before .before in
-    let a = c12 .args in
-    let l = c8 .loop in
-    let w = c4 .width in
-    let b = c5 .wide in
+    let a = c .before .before .before .before .before .before .before .before .before .before .before .args in
+    let l = c .before .before .before .before .before .before .before .loop in
+    let w = c .before .before .before .width in
+    let b = c .before .before .before .before .wide in
     λ e.
-    silent-here (now (a .f)) (a .event .values) (a .at) (l .place) (w .result) (b .result) (b .ensures .0) (w .ensures)
-    (c3 .if2 .left) (l .inv .1) (sym (c .before .fails .ensures) ∙ c .if3 .taken)
+    silent-here (now (a .f)) (now (a .event)) (a .at) (l .place) (w .result) (b .result) (b .ensures .0) (w .ensures)
+    (c .before .before .if2 .left) (l .inv .1) (sym (c .before .fails .ensures) ∙ c .if3 .taken)
 
 add-place-2 : tie.Need-add-place-2 Inv-loop μ-loop
 add-place-2 c =
-    let c4 = c .before .before .before .before in
-    let c5 = c4 .before in
-    let c7 = c5 .before .before in
-    let c12 = c7 .before .before .before .before .before in
-    let w = c4 .width in
-    omega (
-      arith,
-      width-most (c5 .wide .result) (w .result) (w .ensures),
-      c7 .loop-test .taken,
-      c12 .good,
-    )
+    let w = c .before .before .before .width in
+    let most = width-most (c .before .before .before .before .wide .result) (w .result) (w .ensures) in
+    omega (arith, most, c .before .before .before .before .before .before .loop-test .taken, c .before .before .before .before .before .before .before .before .before .before .before .good)
 
 loop-less : tie.Need-loop-less Inv-loop μ-loop
 loop-less c =
-    let c3 = c .before .before .before in
-    let c4 = c3 .before in
-    let c5 = c4 .before in
-    let c7 = c5 .before .before in
-    let w = c4 .width in
-    omega (
-      arith,
-      width-most (c5 .wide .result) (w .result) (w .ensures),
-      c7 .loop-test .taken,
-      c3 .if2 .left,
-    )
+    let w = c .before .before .before .width in
+    let most = width-most (c .before .before .before .before .wide .result) (w .result) (w .ensures) in
+    omega (arith, most, c .before .before .before .before .before .before .loop-test .taken, c .before .before .if2 .left)
 
 loop-again : tie.Need-loop-again Inv-loop μ-loop
 loop-again c =
-    let c3 = c .before .before .before in
-    let c4 = c3 .before in
-    let c5 = c4 .before in
-    let c7 = c5 .before .before in
-    let c8 = c7 .before in
-    let c12 = c8 .before .before .before .before in
-    let a = c12 .args in
-    let l = c8 .loop in
-    let w = c4 .width in
-    let b = c5 .wide in (
-      omega (arith, width-most (b .result) (w .result) (w .ensures), c7 .loop-test .taken),
-      reach-on (now (a .f)) (a .event .values) (a .at) (l .place) (w .result) (b .result) (b .ensures .0) (w .ensures)
-          (c3 .if2 .left) (l .inv .1),
+    let a = c .before .before .before .before .before .before .before .before .before .before .before .args in
+    let l = c .before .before .before .before .before .before .before .loop in
+    let w = c .before .before .before .width in
+    let b = c .before .before .before .before .wide in (
+      omega (arith, width-most (b .result) (w .result) (w .ensures), c .before .before .before .before .before .before .loop-test .taken),
+      reach-on (now (a .f)) (now (a .event)) (a .at) (l .place) (w .result) (b .result) (b .ensures .0) (w .ensures)
+          (c .before .before .if2 .left) (l .inv .1),
     )
 
 returns-4 : tie.Need-returns-4 Inv-loop μ-loop
@@ -131,7 +95,6 @@ barred-spec =
     wide-requires
     width-requires
     returns-2
-    slice-aggregate-fails
     fails-requires
     returns-3
     add-place-2

@@ -11,28 +11,24 @@ use Rattle.machine_code.proofs.marks.due.Statement.{statement}
 use Rattle.machine_code.proofs.marks.due.Tie as tie
 
 abbrev Inv-loop : tie.InvT-loop
-Inv-loop f at rises values place₀ place = (place ≤ length f + 1) × Reached f values at place
+Inv-loop f at rises latest place₀ place = (place ≤ length f + 1) × Reached f latest at place
 
 abbrev μ-loop : tie.MeasureT-loop
-μ-loop f at rises values place₀ place = length f - place
+μ-loop f at rises latest place₀ place = length f - place
 
 returns : tie.Need-returns Inv-loop μ-loop
 returns c = λ e. absurd (false≢true e)
 
 add-place : tie.Need-add-place Inv-loop μ-loop
-add-place c =
-    let c3 = c .before .before .before in
-    omega (arith, c .before .if1 .left, c3 .good)
+add-place c = omega (arith, c .if1 .left, c .before .before .before .before .good)
 
 loop-holds : tie.Need-loop-holds Inv-loop μ-loop
 loop-holds c =
-    let c3 = c .before .before .before in
-    let a = c3 .args in (omega (arith, c .before .if1 .left), reach-start (now (a .f)) (a .latest .values) (a .at))
+    let a = c .before .before .before .before .args in
+    (omega (arith, c .if1 .left), reach-start (now (a .f)) (now (a .latest)) (a .at))
 
 add-loop : tie.Need-add-loop Inv-loop μ-loop
-add-loop c =
-    let c4 = c .before .before .before .before in
-    omega (arith, c .loop .inv .0, c4 .good)
+add-loop c = omega (arith, c .loop .inv .0, c .before .before .before .before .before .good)
 
 shared-slice-read-wide : tie.Need-shared-slice-read-wide Inv-loop μ-loop
 shared-slice-read-wide c = omega (arith, c .before .loop-test .taken)
@@ -46,75 +42,40 @@ width-requires c κs = search needs
 returns-2 : tie.Need-returns-2 Inv-loop μ-loop
 returns-2 c = λ e. absurd (false≢true e)
 
-slice-aggregate-misses : tie.Need-slice-aggregate-misses Inv-loop μ-loop
-slice-aggregate-misses c = search needs
-
-slice-aggregate-misses-2 : tie.Need-slice-aggregate-misses-2 Inv-loop μ-loop
-slice-aggregate-misses-2 c = search needs
-
 misses-requires : tie.Need-misses-requires Inv-loop μ-loop
-misses-requires c κs =
-    let c6 = c .before .before .before .before .before .before in
-    c6 .loop-test .taken
+misses-requires c κs = c .before .before .before .before .loop-test .taken
 
 returns-3 : tie.Need-returns-3 Inv-loop μ-loop
 returns-3 c =
-    let c4 = c .before .before .before .before in
-    let c5 = c4 .before in
-    let c6 = c5 .before in
-    let c9 = c6 .before .before .before in
-    let c13 = c9 .before .before .before .before in
-    let a = c13 .args in
-    let l = c9 .loop in
-    let w = c5 .width in
-    let b = c6 .wide in
+    let a = c .before .before .before .before .before .before .before .before .before .before .before .before .args in
+    let l = c .before .before .before .before .before .before .before .loop in
+    let w = c .before .before .before .width in
+    let b = c .before .before .before .before .wide in
     λ e.
-    late-here (now (a .f)) (a .latest .values) (a .at) (l .place) (w .result) (b .result) (b .ensures .0) (w .ensures)
-    (c4 .if2 .left) (l .inv .1) (a .t3) (sym (c .before .misses .ensures) ∙ c .if3 .taken)
+    late-here (now (a .f)) (now (a .latest)) (a .at) (l .place) (w .result) (b .result) (b .ensures .0) (w .ensures)
+    (c .before .before .if2 .left) (l .inv .1) (now (a .rises)) (sym (c .before .misses .ensures) ∙ c .if3 .taken)
 
 add-place-2 : tie.Need-add-place-2 Inv-loop μ-loop
 add-place-2 c =
-    let c5 = c .before .before .before .before .before in
-    let c6 = c5 .before in
-    let c8 = c6 .before .before in
-    let c13 = c8 .before .before .before .before .before in
-    let w = c5 .width in
-    omega (
-      arith,
-      width-most (c6 .wide .result) (w .result) (w .ensures),
-      c8 .loop-test .taken,
-      c13 .good,
-    )
+    let w = c .before .before .before .width in
+    let most = width-most (c .before .before .before .before .wide .result) (w .result) (w .ensures) in
+    omega (arith, most, c .before .before .before .before .before .before .loop-test .taken, c .before .before .before .before .before .before .before .before .before .before .before .before .good)
 
 loop-less : tie.Need-loop-less Inv-loop μ-loop
 loop-less c =
-    let c4 = c .before .before .before .before in
-    let c5 = c4 .before in
-    let c6 = c5 .before in
-    let c8 = c6 .before .before in
-    let w = c5 .width in
-    omega (
-      arith,
-      width-most (c6 .wide .result) (w .result) (w .ensures),
-      c8 .loop-test .taken,
-      c4 .if2 .left,
-    )
+    let w = c .before .before .before .width in
+    let most = width-most (c .before .before .before .before .wide .result) (w .result) (w .ensures) in
+    omega (arith, most, c .before .before .before .before .before .before .loop-test .taken, c .before .before .if2 .left)
 
 loop-again : tie.Need-loop-again Inv-loop μ-loop
 loop-again c =
-    let c4 = c .before .before .before .before in
-    let c5 = c4 .before in
-    let c6 = c5 .before in
-    let c8 = c6 .before .before in
-    let c9 = c8 .before in
-    let c13 = c9 .before .before .before .before in
-    let a = c13 .args in
-    let l = c9 .loop in
-    let w = c5 .width in
-    let b = c6 .wide in (
-      omega (arith, width-most (b .result) (w .result) (w .ensures), c8 .loop-test .taken),
-      reach-on (now (a .f)) (a .latest .values) (a .at) (l .place) (w .result) (b .result) (b .ensures .0) (w .ensures)
-          (c4 .if2 .left) (l .inv .1),
+    let a = c .before .before .before .before .before .before .before .before .before .before .before .before .args in
+    let l = c .before .before .before .before .before .before .before .loop in
+    let w = c .before .before .before .width in
+    let b = c .before .before .before .before .wide in (
+      omega (arith, width-most (b .result) (w .result) (w .ensures), c .before .before .before .before .before .before .loop-test .taken),
+      reach-on (now (a .f)) (now (a .latest)) (a .at) (l .place) (w .result) (b .result) (b .ensures .0) (w .ensures)
+          (c .before .before .if2 .left) (l .inv .1),
     )
 
 returns-4 : tie.Need-returns-4 Inv-loop μ-loop
@@ -134,8 +95,6 @@ due-spec =
     wide-requires
     width-requires
     returns-2
-    slice-aggregate-misses
-    slice-aggregate-misses-2
     misses-requires
     returns-3
     add-place-2

@@ -6,7 +6,7 @@ use native.Mathlib.Omega.{arith}
 use Prim.Native.Nat.{_+_}
 use mathlib.Core.Path.{_≡_, sym, subst, _∙_}
 use denote.Ref.{now}
-use lib.ListN.{length-set, set}
+use lib.ListN.{getD, length-set, set}
 use Rattle.threads.proofs.Marking.{barred-more, due-more}
 use borrow.Author.Needs.{needs}
 use Rattle.threads.proofs.table.mark_entry.Statement.{statement}
@@ -35,8 +35,7 @@ mul-unless c = search needs
 
 slice-read-unless : tie.Need-slice-read-unless
 slice-read-unless c =
-    let c10 = c .before .before .before .before .before .before .before .before .before .before in
-    let s = c10 in
+    let s = c .before .before .before .before .before .before .before .before .before .before .before in
     omega (arith, length-set (now (s .args .table)) (s .args .i) 0, s .pre)
 
 unless-requires : tie.Need-unless-requires
@@ -50,8 +49,7 @@ mul-table-2 c = search needs
 
 slice-write-table-2 : tie.Need-slice-write-table-2
 slice-write-table-2 c =
-    let c11 = c .before .before .before .before .before .before .before .before .before .before .before in
-    let s = c11 in
+    let s = c .before .before .before .before .before .before .before .before .before .before .before .before in
     omega (arith, length-set (now (s .args .table)) (s .args .i) 0, s .pre)
 
 same-length : tie.Need-same-length
@@ -59,28 +57,26 @@ same-length c = search needs
 
 returns : tie.Need-returns
 returns c =
-    let c4 = c .before .before .before .before in
-    let c5 = c4 .before in
-    let c7 = c5 .before .before in
-    let c11 = c7 .before .before .before .before in
-    let s = c11 in
+    let s = c .before .before .before .before .before .before .before .before .before .before .before .before in
     let a = s .args in
     let f = now (a .f) in
     let steps = now (a .steps) in
-    let m = a .moment in
+    let rises = now (a .rises) in
     let t = now (a .table) in
     let u = set t (a .i) 0 in
     let y = c .unless in
-    let at = c7 .entry .ensures in
+    let at = c .before .before .before .before .before .entry .ensures in
+    let quiet = c .before .before .before .before .barred .ensures (c .before .before .before .if1 .taken) in
     let late = c .before .before .due in (
       length-set u (128 + a .i) (y .result) ∙ length-set t (a .i) 0,
-      λ e.
-          let quiet = c5 .barred .ensures (c4 .if1 .taken) in
-          let one = barred-more f steps (a .rises) m t (a .i) (s .pre .1) e true
-          (λ b d. subst (λ i. (fired f i d (m .event .values)) .fires ≡ false) at (quiet d)) in
-          subst (λ z. EventTable f steps (a .rises) m (set u (128 + a .i) z)) (sym (y .ensures))
-          (due-more f steps (a .rises) m u (a .i) (s .pre .1) one (late .result)
-          (λ b d. subst (λ i. lapsed f i d (a .rises) (m .latest .values) ≡ true) at (late .ensures b d))),
+      λ m p q e.
+          let one = barred-more f steps rises m t (a .i) (s .pre .1) e true
+          (λ b d. subst (λ v. (fired f (getD steps (a .i) 0) d v) .fires ≡ false) (sym p)
+          (subst (λ i. (fired f i d (now (a .event))) .fires ≡ false) at (quiet d))) in
+          subst (λ z. EventTable f steps rises m (set u (128 + a .i) z)) (sym (y .ensures))
+          (due-more f steps rises m u (a .i) (s .pre .1) one (late .result)
+          (λ b d. subst (λ v. lapsed f (getD steps (a .i) 0) d rises v ≡ true) (sym q)
+          (subst (λ i. lapsed f i d rises (now (a .latest)) ≡ true) at (late .ensures b d)))),
     )
 
 returns-2 : tie.Need-returns-2

@@ -1,34 +1,40 @@
--- `threads::mark_state` meets its contract: each turn leaves it the event's table.
+-- `table::mark_state` meets its contract: each turn leaves it the event's table.
 use native.Mathlib.Omega.{arith}
 use Prim.Native.Nat.{_-_, _≤_}
 use mathlib.Core.Path.{refl, _∙_}
-use Rattle.threads.specs.inner.Setting.{MarkedIs}
+use borrow.Author.Needs.{needs}
+use Rattle.threads.specs.inner.Setting.{MarkedBy}
 use Rattle.threads.proofs.table.mark_state.Statement.{statement}
 use Rattle.threads.proofs.table.mark_state.Tie as tie
 
 abbrev Inv-loop : tie.InvT-loop
-Inv-loop table₀ s f steps rises m k₀ table k = (k ≤ 8) × MarkedIs f steps rises m table₀ table
+Inv-loop table₀ s f steps rises values last k₀ table k = (k ≤ 8) × MarkedBy f steps rises values last table₀ table
 
 abbrev μ-loop : tie.MeasureT-loop
-μ-loop table₀ s f steps rises m k₀ table k = 8 - k
+μ-loop table₀ s f steps rises values last k₀ table k = 8 - k
 
 loop-holds : tie.Need-loop-holds Inv-loop μ-loop
-loop-holds c = (omega arith, (refl, λ e. e))
+loop-holds c = (omega arith, (refl, λ m p q e. e))
 
 mul-mark-entry : tie.Need-mul-mark-entry Inv-loop μ-loop
-mul-mark-entry c =
-    let c6 = c .before .before .before .before .before .before in
-    omega (arith, c6 .pre)
+mul-mark-entry c = omega (arith, c .before .before .before .before .before .before .before .before .before .before .pre)
 
 add-mark-entry : tie.Need-add-mark-entry Inv-loop μ-loop
-add-mark-entry c =
-    let c6 = c .before .before .before .before .before .before in
-    omega (arith, c6 .pre, c .before .loop-test .taken)
+add-mark-entry c = omega (arith, c .before .before .before .before .before .before .before .before .before .before .pre, c .before .loop-test .taken)
+
+slice-aggregate-mark-entry : tie.Need-slice-aggregate-mark-entry Inv-loop μ-loop
+slice-aggregate-mark-entry c = search needs
+
+slice-aggregate-mark-entry-2 : tie.Need-slice-aggregate-mark-entry-2 Inv-loop μ-loop
+slice-aggregate-mark-entry-2 c = search needs
+
+slice-aggregate-mark-entry-3 : tie.Need-slice-aggregate-mark-entry-3 Inv-loop μ-loop
+slice-aggregate-mark-entry-3 c = search needs
 
 mark-entry-requires : tie.Need-mark-entry-requires Inv-loop μ-loop
 mark-entry-requires c κs =
-    let c6 = c .before .before .before .before .before .before in
-    (omega (arith, c6 .pre, c .before .before .loop .inv .1 .0), omega (arith, c6 .pre, c .before .loop-test .taken))
+    let p = c .before .before .before .before .before .before .before .before .before .before .before .before .before .pre in
+    (omega (arith, p, c .before .before .before .before .before .loop .inv .1 .0), omega (arith, p, c .before .before .before .before .loop-test .taken))
 
 add-k : tie.Need-add-k Inv-loop μ-loop
 add-k c = omega arith
@@ -38,14 +44,18 @@ loop-less c = omega arith
 
 loop-again : tie.Need-loop-again Inv-loop μ-loop
 loop-again c =
-    let c5 = c .before .before .before .before .before in
-    (omega arith, (c .before .before .mark-entry .ensures .0 ∙ c5 .loop .inv .1 .0, λ e. c .before .before .mark-entry .ensures .1 (c5 .loop .inv .1 .1 e)))
+    let i = c .before .before .before .before .before .before .before .before .loop .inv .1 in
+    let more = c .before .before .mark-entry .ensures in
+    (omega arith, (more .0 ∙ i .0, λ m p q e. more .1 m p q (i .1 m p q e)))
 
 same-length : tie.Need-same-length Inv-loop μ-loop
 same-length c = c .before .loop .inv .1 .0
 
 returns : tie.Need-returns Inv-loop μ-loop
-returns c = c .before .loop .inv .1
+returns c =
+    let i = c .before .loop .inv .1 in
+    let a = c .before .before .before .before .before .before .before .before .before .args in
+    (i .0, i .1 (a .moment) refl refl)
 
 pub mark-state-spec : {M : Type 1} → statement M
 mark-state-spec =
@@ -56,6 +66,9 @@ mark-state-spec =
     loop-holds
     mul-mark-entry
     add-mark-entry
+    slice-aggregate-mark-entry
+    slice-aggregate-mark-entry-2
+    slice-aggregate-mark-entry-3
     mark-entry-requires
     add-k
     loop-less
