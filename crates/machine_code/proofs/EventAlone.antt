@@ -1,6 +1,6 @@
 -- What an event alone says of a step: a clause that fails keeps the walk from passing, and one past due stays past due, whatever follows.
 use Prim.Native.Nat.{ℕ, zero, suc, _+_, _≤_}
-use mathlib.Core.Path.{_≡_, refl, ap, sym, _∙_}
+use mathlib.Core.Path.{_≡_, refl, ap, sym, subst, _∙_}
 use mathlib.Core.Bool.{Bool, true, false, cond, not, _&&_, _||_}
 use mathlib.Core.List.{List}
 use native.Mathlib.Omega.{arith}
@@ -14,7 +14,7 @@ use Rattle.machine_code.specs.declared.Walked.{Walked}
 use Rattle.machine_code.specs.inner.Bytes.{holdsBy, missedBy, isClause, tested, holding, bound, clauseAt, walkFrom, begun, walked, fired, lapsed}
 use Rattle.base.proofs.Tests.{and-false, or-right}
 use Rattle.runs.proofs.Moves.{and-both}
-use Rattle.machine_code.specs.inner.Marks.{widthOf, failsAt, missesAt}
+use Rattle.machine_code.specs.inner.Marks.{widthOf, failsAt, missesAt, Reaches, begins, onward}
 use Rattle.machine_code.proofs.ClausesOnBytes.{Walking, clause-in, walking-start, walking-more}
 
 and-fails : (a b : Bool) → a ≡ false → (a && b) ≡ false
@@ -205,6 +205,18 @@ module _ (f event : List ℕ) (at : ℕ) where
         go : (t : Bool) (u v : Bool) → u ≡ true → cond t true (u || v) ≡ true
         go true u v h = refl
         go false u v h = rw h
+
+-- a place that is reached is reached by the walk of every configuration, over any values
+pub reached : (f : List ℕ) (at place : ℕ) → Reaches f at place → (event : List ℕ) → Reached f event at place
+reached f at _ begins event = reach-start f event at
+reached f at _ (onward place r n) event = reach-on f event at place (widthOf (getD f place 0)) (getD f place 0) refl refl n (reached f at place r event)
+
+-- one clause more, as the code reads it
+pub reaches-on : (f : List ℕ) (at place taken command : ℕ) → command ≡ getD f place 0 → taken ≡ widthOf command → (taken ≡ 0 → ⊥)
+    → Reaches f at place → Reaches f at (place + taken)
+reaches-on f at place taken command e₁ e₂ n r =
+    let e : taken ≡ widthOf (getD f place 0) = e₂ ∙ ap widthOf e₁ in
+    subst (λ t. Reaches f at (place + t)) (sym e) (onward place r (subst (λ t. t ≡ 0 → ⊥) e n))
 
 -- the clause as the code reads it
 pub fails-other : (f : List ℕ) (c p : ℕ) (event : List ℕ) → (c ≡ 0x12 → ⊥) → false ≡ failsAt f c p event

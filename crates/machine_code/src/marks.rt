@@ -56,36 +56,38 @@ fn misses(f: &[u8], command: u32, place: usize, rises: &[bool], latest: &[u32]) 
     false
 }
 
-// Whether a TEST of the STEP at an offset is false on the event: the step does not fire, whatever the configuration.
-pub fn barred(f: &[u8], at: usize, event: &[u32]) -> bool
+// The place of the first TEST of the STEP at an offset that is false on the event, 0 where none is: with such a TEST the step does
+// not fire, whatever the configuration.
+pub fn barred(f: &[u8], at: usize, event: &[u32]) -> usize
     ensures { λ r. ⌜ BarredIs (now (f .entry)) at (now (event .entry)) r ⌝ }
 {
     if f.len() <= at {
-        return false;
+        return 0;
     }
     let mut place = at + 2;
     while place + 7 <= f.len() {
         let command = base::wide(f[place]);
         let taken = width(command);
         if taken == 0 {
-            return false;
+            return 0;
         }
         if fails(f, command, place, event) {
-            return true;
+            return place;
         }
         place = place + taken;
     }
-    false
+    0
 }
 
-// Whether a TEST of the STEP at an offset is past due by these values: the step is expired, whatever the configuration.
-pub fn due(f: &[u8], at: usize, rises: &[bool], latest: &[u32]) -> bool
-    ensures { λ r. ⌜ DueIs (now (f .entry)) at (now (rises .entry)) (now (latest .entry)) r ⌝ }
+// Whether a TEST from a place on is past due by these values: the step whose clause stands there is expired, whatever the
+// configuration.
+pub fn due(f: &[u8], from: usize, rises: &[bool], latest: &[u32]) -> bool
+    ensures { λ r. ⌜ DueIs (now (f .entry)) from (now (rises .entry)) (now (latest .entry)) r ⌝ }
 {
-    if f.len() <= at {
+    if f.len() <= from {
         return false;
     }
-    let mut place = at + 2;
+    let mut place = from;
     while place + 7 <= f.len() {
         let command = base::wide(f[place]);
         let taken = width(command);

@@ -37,7 +37,7 @@ fn unless(cleared: bool, at: usize) -> usize
     if cleared { 0 } else { at }
 }
 
-// What the event alone says of the step at index i; a step that is past due has a TEST that is false on the event.
+// What the event alone says of the step at index i. A TEST past due is false on the event, so it is looked for from the first such on.
 fn mark_entry(
     table: &mut [usize],
     i: usize,
@@ -50,11 +50,11 @@ fn mark_entry(
     requires { ⌜ (length (now table) ≡ 256) × (i < 128) ⌝ }
     ensures { λ _. ⌜ MarkedBy (now (f .entry)) (now (steps .entry)) (now (rises .entry)) (now (event .entry)) (now (latest .entry)) (now (table .entry)) (now (table .exit)) ⌝ }
 {
-    let at = entry(steps, i);
-    if machine_code::marks::barred(f, at, event) {
+    let place = machine_code::marks::barred(f, entry(steps, i), event);
+    if 0 < place {
         table[i] = 0;
         table[128 + i] = unless(
-            machine_code::marks::due(f, at, rises, latest),
+            machine_code::marks::due(f, place, rises, latest),
             table[128 + i],
         );
     }

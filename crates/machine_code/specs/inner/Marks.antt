@@ -22,10 +22,15 @@ unfoldable pub missesAt : List ℕ → ℕ → ℕ → List Bool → List ℕ �
 missesAt f c p rises latest =
     eqb c 0x12 && (getD rises (getD f (p + 1) 0) false && missedBy (getD f (p + 2) 0) (getD latest (getD f (p + 1) 0) 0) (valueAt f (p + 3)))
 
--- a step said to be barred does not fire on the event, whatever the configuration
-abbrev pub BarredIs : List ℕ → ℕ → List ℕ → Bool → Type 0
-BarredIs f at event r = r ≡ true → (c : Configuration) → (fired f at c event) .fires ≡ false
+-- at a place begins a clause of the step at `at`, or what follows them: clause by clause from its first
+pub data Reaches (f : List ℕ) (at : ℕ) : ℕ → Type 0 where
+  begins : Reaches f at (at + 2)
+  onward : (place : ℕ) → Reaches f at place → (widthOf (getD f place 0) ≡ 0 → ⊥) → Reaches f at (place + widthOf (getD f place 0))
 
--- a step said to be due is expired by these values, whatever the configuration
+-- a step said to be barred by the clause at a place, which is not 0, does not fire on the event, whatever the configuration
+abbrev pub BarredIs : List ℕ → ℕ → List ℕ → ℕ → Type 0
+BarredIs f at event r = (r ≡ 0 → ⊥) → ((c : Configuration) → (fired f at c event) .fires ≡ false) × Reaches f at r
+
+-- a step said to be due by its clauses from a place on is expired by these values, whatever the configuration
 abbrev pub DueIs : List ℕ → ℕ → List Bool → List ℕ → Bool → Type 0
-DueIs f at rises latest r = r ≡ true → (c : Configuration) → lapsed f at c rises latest ≡ true
+DueIs f place rises latest r = r ≡ true → (at : ℕ) → Reaches f at place → (c : Configuration) → lapsed f at c rises latest ≡ true

@@ -1,31 +1,29 @@
 -- `marks::barred` meets its contract: a TEST that is false keeps every walk from passing.
 use denote.Ref.{now}
-use mathlib.Core.Path.{_∙_, sym}
-use mathlib.Core.Bool.{false≢true}
+use mathlib.Core.Path.{refl, _∙_, sym}
 use Prim.Native.Nat.{_+_, _-_, _≤_}
 use lib.ListN.{length}
 use native.Mathlib.Omega.{arith}
 use borrow.Author.Needs.{needs}
-use Rattle.machine_code.proofs.EventAlone.{Reached, width-most, reach-start, reach-on, silent-here}
+use Rattle.machine_code.specs.inner.Marks.{Reaches, begins}
+use Rattle.machine_code.proofs.EventAlone.{width-most, reached, reaches-on, silent-here}
 use Rattle.machine_code.proofs.marks.barred.Statement.{statement}
 use Rattle.machine_code.proofs.marks.barred.Tie as tie
 
 abbrev Inv-loop : tie.InvT-loop
-Inv-loop f at event place₀ place = (place ≤ length f + 1) × Reached f event at place
+Inv-loop f at event place₀ place = (place ≤ length f + 1) × Reaches f at place
 
 abbrev μ-loop : tie.MeasureT-loop
 μ-loop f at event place₀ place = length f - place
 
 returns : tie.Need-returns Inv-loop μ-loop
-returns c = λ e. absurd (false≢true e)
+returns c = λ n. absurd (n refl)
 
 add-place : tie.Need-add-place Inv-loop μ-loop
 add-place c = omega (arith, c .if1 .left, c .before .before .before .good)
 
 loop-holds : tie.Need-loop-holds Inv-loop μ-loop
-loop-holds c =
-    let a = c .before .before .before .args in
-    (omega (arith, c .if1 .left), reach-start (now (a .f)) (now (a .event)) (a .at))
+loop-holds c = (omega (arith, c .if1 .left), begins)
 
 add-loop : tie.Need-add-loop Inv-loop μ-loop
 add-loop c = omega (arith, c .loop .inv .0, c .before .before .before .before .good)
@@ -40,7 +38,7 @@ width-requires : tie.Need-width-requires Inv-loop μ-loop
 width-requires c κs = search needs
 
 returns-2 : tie.Need-returns-2 Inv-loop μ-loop
-returns-2 c = λ e. absurd (false≢true e)
+returns-2 c = λ n. absurd (n refl)
 
 fails-requires : tie.Need-fails-requires Inv-loop μ-loop
 fails-requires c κs = c .before .before .before .before .loop-test .taken
@@ -51,9 +49,11 @@ returns-3 c =
     let l = c .before .before .before .before .before .before .before .loop in
     let w = c .before .before .before .width in
     let b = c .before .before .before .before .wide in
-    λ e.
-    silent-here (now (a .f)) (now (a .event)) (a .at) (l .place) (w .result) (b .result) (b .ensures .0) (w .ensures)
-    (c .before .before .if2 .left) (l .inv .1) (sym (c .before .fails .ensures) ∙ c .if3 .taken)
+    λ n. (
+      silent-here (now (a .f)) (now (a .event)) (a .at) (l .place) (w .result) (b .result) (b .ensures .0) (w .ensures) (c .before .before .if2 .left)
+          (reached (now (a .f)) (a .at) (l .place) (l .inv .1) (now (a .event))) (sym (c .before .fails .ensures) ∙ c .if3 .taken),
+      l .inv .1,
+    )
 
 add-place-2 : tie.Need-add-place-2 Inv-loop μ-loop
 add-place-2 c =
@@ -74,12 +74,11 @@ loop-again c =
     let w = c .before .before .before .width in
     let b = c .before .before .before .before .wide in (
       omega (arith, width-most (b .result) (w .result) (w .ensures), c .before .before .before .before .before .before .loop-test .taken),
-      reach-on (now (a .f)) (now (a .event)) (a .at) (l .place) (w .result) (b .result) (b .ensures .0) (w .ensures)
-          (c .before .before .if2 .left) (l .inv .1),
+      reaches-on (now (a .f)) (a .at) (l .place) (w .result) (b .result) (b .ensures .0) (w .ensures) (c .before .before .if2 .left) (l .inv .1),
     )
 
 returns-4 : tie.Need-returns-4 Inv-loop μ-loop
-returns-4 c = λ e. absurd (false≢true e)
+returns-4 c = λ n. absurd (n refl)
 
 pub barred-spec : {M : Type 1} → statement M
 barred-spec =

@@ -2,30 +2,26 @@
 use denote.Ref.{now}
 use mathlib.Core.Path.{_∙_, sym}
 use mathlib.Core.Bool.{false≢true}
-use Prim.Native.Nat.{_+_, _-_, _≤_}
+use Prim.Native.Nat.{ℕ, _+_, _-_, _≤_}
 use lib.ListN.{length}
 use native.Mathlib.Omega.{arith}
 use borrow.Author.Needs.{needs}
-use Rattle.machine_code.proofs.EventAlone.{Reached, width-most, reach-start, reach-on, late-here}
+use Rattle.machine_code.specs.inner.Marks.{Reaches}
+use Rattle.machine_code.proofs.EventAlone.{width-most, reached, reaches-on, late-here}
 use Rattle.machine_code.proofs.marks.due.Statement.{statement}
 use Rattle.machine_code.proofs.marks.due.Tie as tie
 
 abbrev Inv-loop : tie.InvT-loop
-Inv-loop f at rises latest place₀ place = (place ≤ length f + 1) × Reached f latest at place
+Inv-loop f from rises latest place₀ place = (place ≤ length f + 1) × ((at : ℕ) → Reaches f at from → Reaches f at place)
 
 abbrev μ-loop : tie.MeasureT-loop
-μ-loop f at rises latest place₀ place = length f - place
+μ-loop f from rises latest place₀ place = length f - place
 
 returns : tie.Need-returns Inv-loop μ-loop
 returns c = λ e. absurd (false≢true e)
 
-add-place : tie.Need-add-place Inv-loop μ-loop
-add-place c = omega (arith, c .if1 .left, c .before .before .before .before .good)
-
 loop-holds : tie.Need-loop-holds Inv-loop μ-loop
-loop-holds c =
-    let a = c .before .before .before .before .args in
-    (omega (arith, c .if1 .left), reach-start (now (a .f)) (now (a .latest)) (a .at))
+loop-holds c = (omega (arith, c .if1 .left), λ at r. r)
 
 add-loop : tie.Need-add-loop Inv-loop μ-loop
 add-loop c = omega (arith, c .loop .inv .0, c .before .before .before .before .before .good)
@@ -51,12 +47,12 @@ returns-3 c =
     let l = c .before .before .before .before .before .before .before .loop in
     let w = c .before .before .before .width in
     let b = c .before .before .before .before .wide in
-    λ e.
-    late-here (now (a .f)) (now (a .latest)) (a .at) (l .place) (w .result) (b .result) (b .ensures .0) (w .ensures)
-    (c .before .before .if2 .left) (l .inv .1) (now (a .rises)) (sym (c .before .misses .ensures) ∙ c .if3 .taken)
+    λ e at h.
+    late-here (now (a .f)) (now (a .latest)) at (l .place) (w .result) (b .result) (b .ensures .0) (w .ensures) (c .before .before .if2 .left)
+    (reached (now (a .f)) at (l .place) (l .inv .1 at h) (now (a .latest))) (now (a .rises)) (sym (c .before .misses .ensures) ∙ c .if3 .taken)
 
-add-place-2 : tie.Need-add-place-2 Inv-loop μ-loop
-add-place-2 c =
+add-place : tie.Need-add-place Inv-loop μ-loop
+add-place c =
     let w = c .before .before .before .width in
     let most = width-most (c .before .before .before .before .wide .result) (w .result) (w .ensures) in
     omega (arith, most, c .before .before .before .before .before .before .loop-test .taken, c .before .before .before .before .before .before .before .before .before .before .before .before .good)
@@ -74,8 +70,7 @@ loop-again c =
     let w = c .before .before .before .width in
     let b = c .before .before .before .before .wide in (
       omega (arith, width-most (b .result) (w .result) (w .ensures), c .before .before .before .before .before .before .loop-test .taken),
-      reach-on (now (a .f)) (now (a .latest)) (a .at) (l .place) (w .result) (b .result) (b .ensures .0) (w .ensures)
-          (c .before .before .if2 .left) (l .inv .1),
+      λ at r. reaches-on (now (a .f)) at (l .place) (w .result) (b .result) (b .ensures .0) (w .ensures) (c .before .before .if2 .left) (l .inv .1 at r),
     )
 
 returns-4 : tie.Need-returns-4 Inv-loop μ-loop
@@ -88,7 +83,6 @@ due-spec =
     Inv-loop
     μ-loop
     returns
-    add-place
     loop-holds
     add-loop
     shared-slice-read-wide
@@ -97,7 +91,7 @@ due-spec =
     returns-2
     misses-requires
     returns-3
-    add-place-2
+    add-place
     loop-less
     loop-again
     returns-4)

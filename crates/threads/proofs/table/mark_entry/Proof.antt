@@ -66,17 +66,17 @@ returns c =
     let u = set t (a .i) 0 in
     let y = c .unless in
     let at = c .before .before .before .before .before .entry .ensures in
-    let quiet = c .before .before .before .before .barred .ensures (c .before .before .before .if1 .taken) in
+    let told = c .before .before .before .before .barred .ensures (λ z. omega (arith, z, c .before .before .before .if1 .taken)) in
     let late = c .before .before .due in (
       length-set u (128 + a .i) (y .result) ∙ length-set t (a .i) 0,
       λ m p q e.
           let one = barred-more f steps rises m t (a .i) (s .pre .1) e true
           (λ b d. subst (λ v. (fired f (getD steps (a .i) 0) d v) .fires ≡ false) (sym p)
-          (subst (λ i. (fired f i d (now (a .event))) .fires ≡ false) at (quiet d))) in
+          (subst (λ i. (fired f i d (now (a .event))) .fires ≡ false) at (told .0 d))) in
           subst (λ z. EventTable f steps rises m (set u (128 + a .i) z)) (sym (y .ensures))
           (due-more f steps rises m u (a .i) (s .pre .1) one (late .result)
           (λ b d. subst (λ v. lapsed f (getD steps (a .i) 0) d rises v ≡ true) (sym q)
-          (subst (λ i. lapsed f i d rises (now (a .latest)) ≡ true) at (late .ensures b d)))),
+          (subst (λ i. lapsed f i d rises (now (a .latest)) ≡ true) at (late .ensures b _ (told .1) d)))),
     )
 
 returns-2 : tie.Need-returns-2
