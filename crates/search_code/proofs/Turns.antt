@@ -85,12 +85,13 @@ module _ (l : List ℕ) (fields events : ℕ) (places f table : List ℕ) (rules
           (arith, ap (λ (x : SearchAnswer). x .width) q),
     )
 
-    module _ (more : n < events) (loaded : Loaded) (there : loaded ≡ loadedAt l fields (getD places n 0)) (after : List ℕ) (turn : Turn) (is : TurnOf f table rules (momentOf n (loaded .event)) (record {
-      half =
-          half;
-      count = count;
-      slots = slots;
-    }) work after turn) where
+    module _ (more : n < events) (loaded : Loaded) (there : loaded ≡ loadedAt l fields (getD places n 0)) (after : List ℕ) (turn : Turn)
+        (is : TurnOf f table rules (momentOf n (loaded .event)) (record {
+          half =
+              half;
+          count = count;
+          slots = slots;
+        }) work after turn) where
       -- what the event does
       turned : (g : Log) (fm : Formula) → Setting g fm f table rules → Leads l places g → fields ≡ length (g .fields) → events ≡ length (g .events) → i < events
           → TurnTo g fm half count slots n work after (turn .thread) (turn .outcome)

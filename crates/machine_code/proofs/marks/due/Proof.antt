@@ -55,7 +55,13 @@ add-place : tie.Need-add-place Inv-loop μ-loop
 add-place c =
     let w = c .before .before .before .width in
     let most = width-most (c .before .before .before .before .wide .result) (w .result) (w .ensures) in
-    omega (arith, most, c .before .before .before .before .before .before .loop-test .taken, c .before .before .before .before .before .before .before .before .before .before .before .before .good)
+    omega (
+      arith,
+      most,
+      c .before .before .before .before .before .before .loop-test .taken,
+      c .before .before .before .before .before .before .before .before
+          .before .before .before .before .good,
+    )
 
 loop-less : tie.Need-loop-less Inv-loop μ-loop
 loop-less c =
