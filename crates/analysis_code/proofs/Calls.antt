@@ -1,6 +1,6 @@
 -- The checks of a call, one after the other: what each refusal leaves, and what the readers hand on.
 use Prim.Native.Nat.{ℕ, _*_, _<_, _≤_}
-use mathlib.Core.Path.{_≡_, refl, ap, sym, subst, _∙_}
+use mathlib.Core.Path.{_≡_, refl, ap, sym, _∙_}
 use mathlib.Core.Bool.{Bool, true, false, cond}
 use mathlib.Core.List.{List, []}
 use native.Mathlib.Omega.{arith}
@@ -12,14 +12,12 @@ use Rattle.refusal.specs.declared.Refusal.{Refusal}
 use Rattle.refusal.specs.declared.Refusal.the-variants.{Short}
 use Rattle.event_log.specs.Log.{Log}
 use Rattle.event_log.specs.File.{LogFile, logOf}
-use Rattle.event_log.specs.Event.{Leads}
 use Rattle.event_log.specs.Encode as LogEncode
 use Rattle.event_log.specs.Correct as LogCorrect
 use Rattle.event_log.specs.declared.Verdict.the-variants as LogVerdict
 use Rattle.event_log.specs.declared.LogReading.{LogReading}
 use Rattle.event_log.specs.Read as LogRead
 use Rattle.event_log.proofs.Accepted.{accepted-is-encoding}
-use Rattle.event_log.proofs.Places.{table-leads}
 use Rattle.event_log.proofs.Answers.{LogTaken, log-refused, log-taken}
 use Rattle.formula.specs.Formula.{Formula}
 use Rattle.formula.specs.Lookup.{isTied, tiedMask}
@@ -33,13 +31,16 @@ use Rattle.analysis.specs.declared.Outcome.{Outcome}
 use Rattle.analysis.specs.declared.Outcome.the-variants.{Refused}
 use Rattle.formula_code.specs.declared.Verdict.the-variants as FormulaVerdict
 use Rattle.formula_code.specs.declared.FormulaReading.{FormulaReading}
-use Rattle.formula_code.specs.Answer.{answerOf as formulaAnswer, kindsOf}
+use Rattle.formula_code.specs.Answer.{answerOf as formulaAnswer}
 use Rattle.formula_code.proofs.Answers.{FormulaTaken, formula-refused, formula-taken}
 use Rattle.analysis.specs.Rows.{rowsFrom}
 use Rattle.analysis.specs.Analysis.{Analysed, refusal, writtenInto, checked, withFormula, analysis}
 use Rattle.analysis.specs.Call.{Leaves, Analyses}
 use Rattle.analysis.proofs.Demand.{only-crowded}
-use Rattle.analysis_code.specs.inner.Starts.{bitsOf, Handed}
+use Rattle.search_code.specs.inner.Checks.{Accepted}
+use Rattle.analysis_code.specs.inner.Starts.{bitsOf, Ties}
+use Rattle.analysis_code.proofs.Ties.{tied-same}
+use Rattle.analysis_code.proofs.Fitting.{tied-exist}
 use Rattle.analysis_code.proofs.Filling.{bits-length, bits-at}
 
 -- a call that is refused before it runs leaves every lent word as it was
@@ -90,44 +91,37 @@ refused-formula g f work rows r why e h =
     let q : x ≡ FormulaRead.refused why = formula-refused x why (ap (λ (a : FormulaReading). a .verdict) (sym e) ∙ h) in
     rw q left-alone
 
+-- the reader's mask of tied variables, read back, ties as the formula does
+pub mask-ties : (t : LogFile) (fm : Formula) (l f : List ℕ) (log : LogReading) (r : FormulaReading) (tied : List Bool) → Accepted t fm l log f r
+    → tied ≡ bitsOf 8 (r .tied) → Ties fm tied
+unfolding formulaAnswer
+mask-ties t fm l f log r tied a marks =
+    tied-same (fm .tied) tied (tied-exist (logOf t) fm (a .formula-correct)) (ap length marks ∙ bits-length 8 (r .tied))
+    (λ v k. ap (λ bs. getD bs v false) marks ∙ ap (λ (x : FormulaReading). getD (bitsOf 8 (x .tied)) v false) (a .formula-read) ∙ tie-at fm v k)
+
 -- the formula is accepted
 module _ (t : LogFile) (l f : List ℕ) (log : LogReading) (r : FormulaReading) (bytes : Bytes f) (read : log ≡ LogRead.answerOf (LogRead.accepted t))
     (here : l ≡ LogEncode.encode t) (ok : LogCorrect.Correct t)
-    (e : r ≡ formulaAnswer (FormulaRead.readFormula (length (t .fields)) f)) (h : r .verdict ≡ FormulaVerdict.Accepted) (tied : List Bool)
-    (marks : tied ≡ bitsOf 8 (r .tied)) where
+    (e : r ≡ formulaAnswer (FormulaRead.readFormula (length (t .fields)) f)) (h : r .verdict ≡ FormulaVerdict.Accepted) where
   taken : FormulaTaken (FormulaRead.readFormula (length (t .fields)) f)
   taken = formula-taken (FormulaRead.readFormula (length (t .fields)) f) (ap (λ (a : FormulaReading). a .verdict) (sym e) ∙ h)
 
-  given : Handed (logOf t) (taken .formula) l log f (r .table) (record { kinds = r .kinds; rises = log .rises }) tied
-  unfolding formulaAnswer kindsOf LogRead.answerOf
-  given =
-      let a : r ≡ formulaAnswer (FormulaRead.accepted (taken .formula)) = e ∙ ap formulaAnswer (taken .is) in
+  both : Accepted t (taken .formula) l log f r
+  both =
       let c = accepted-correct (length (t .fields)) f (taken .formula) bytes (taken .is) in
       record {
-        setting =
-            record {
-              log = ok .recorded;
-              formula = c .1;
-              bytes = c .0;
-              table-is = ap (λ (x : FormulaReading). x .table) a;
-              kinds-are = ap (λ (x : FormulaReading). x .kinds) a;
-              rising-are = ap (λ (x : LogReading). x .rises) read;
-            };
-        leads = subst (λ (ps : List ℕ). Leads l ps (logOf t)) (sym (ap (λ (x : LogReading). x .places) read)) (table-leads t l ok here);
-        fields-are = ap (λ (x : LogReading). x .fields) read;
-        events-are = ap (λ (x : LogReading). x .events) read;
-        tied-8 = ap length marks ∙ bits-length 8 (r .tied);
-        tied-are = λ v k. ap (λ bs. getD bs v false) marks ∙ ap (λ (x : FormulaReading). getD (bitsOf 8 (x .tied)) v false) a ∙ tie-at (taken .formula) v k;
+        log-correct = ok;
+        log-bytes = here;
+        log-read = read;
+        formula-correct = c .1;
+        formula-bytes = c .0;
+        formula-read = e ∙ ap formulaAnswer (taken .is);
       }
 
   pub accepted-formula : (work work-after rows rows-after : List ℕ) (o : Outcome)
-      → ((fm : Formula) → Handed (logOf t) fm l log f (r .table) (record {
-        kinds =
-            r .kinds;
-        rises = log .rises;
-      }) tied → Leaves (checked (logOf t) fm (length work) rows) work work-after rows-after o)
+      → ((fm : Formula) → Accepted t fm l log f r → Leaves (checked (logOf t) fm (length work) rows) work work-after rows-after o)
       → Leaves (withFormula (logOf t) (FormulaRead.readFormula (length (t .fields)) f) (length work) rows) work work-after rows-after o
-  accepted-formula work work-after rows rows-after o go = rw (taken .is) (go (taken .formula) given)
+  accepted-formula work work-after rows rows-after o go = rw (taken .is) (go (taken .formula) both)
 
 -- the log is refused
 pub refused-log : (l f work rows : List ℕ) (log : LogReading) (why : Refusal) → LogRead.ReadsLog l log → log .verdict ≡ LogVerdict.Refused why

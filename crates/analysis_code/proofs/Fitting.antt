@@ -1,7 +1,7 @@
 -- What a search names over a correct log and a correct formula fits a row; every tied variable exists.
 use Prim.Native.Nat.{ℕ, _<_, _≤_}
-use mathlib.Core.Path.{_≡_}
 use mathlib.Core.List.{List, [], _∷_, map, flatMap}
+use native.Mathlib.Omega.{arith}
 use lib.ListN.{length}
 use Rattle.base.specs.Lists.{All}
 use Rattle.event_log.specs.Log.{Log}
@@ -19,6 +19,9 @@ use Rattle.machine.specs.Configuration.{Valid}
 use Rattle.machine.specs.Machine.{machine}
 use Rattle.machine.proofs.Premises.{premises, keeps}
 use Rattle.search.proofs.Premises.{ends-valid}
+use Rattle.search_code.specs.declared.Scope.{Scope}
+use Rattle.search_code.specs.inner.Turn.{Given}
+use Rattle.analysis_code.specs.inner.Starts.{Fitting}
 
 -- every TIED names one of the 8 variables
 tied-variables : (fields states : ℕ) (ws : List ℕ) → All (Exists fields states) (map TIED ws) → All (λ v. v < 8) ws
@@ -31,17 +34,6 @@ tied-exist g fm ok =
     tied-variables (length (g .fields)) (length (fm .states)) (fm .tied)
     (all-left (Exists (length (g .fields)) (length (fm .states))) (map TIED (fm .tied)) (flatMap stateCommands (fm .states)) (ok .values))
 
--- what a row needs of a run that is named: at most 32 steps, and a place for each of the 8 variables
-pub record Bounded (steps held values : ℕ) : Type 0 where
-  pub short : steps ≤ 32
-  pub held-8 : held ≡ 8
-  pub values-8 : values ≡ 8
-
-abbrev pub Fitting : (g : Log) (fm : Formula) → Answer (machine g fm) → Type 0
-Fitting g fm (found c t width) = Bounded (length t) (length (c .held)) (length (c .values))
-Fitting g fm (absent width) = Unit {0}
-Fitting g fm (crowded n) = Unit {0}
-
 module _ (g : Log) (fm : Formula) (log : LogCorrect.Recorded g) (formula : FormulaCorrect.Correct (length (g .fields)) fm) where
   demand-fits : (slots i : ℕ) (a : Answer (machine g fm)) → Demand (machine g fm) slots i a → Fitting g fm a
   demand-fits slots i (found c t width) d =
@@ -50,5 +42,11 @@ module _ (g : Log) (fm : Formula) (log : LogCorrect.Recorded g) (formula : Formu
   demand-fits slots i (absent width) d = tt
   demand-fits slots i (crowded n) d = tt
 
-  pub search-fits : (slots i : ℕ) → i ≤ length (g .events) → Fitting g fm (search (machine g fm) slots i)
+  search-fits : (slots i : ℕ) → i ≤ length (g .events) → Fitting g fm (search (machine g fm) slots i)
   search-fits slots i h = demand-fits slots i (search (machine g fm) slots i) (search-meets (machine g fm) (keeps g fm log formula) slots i h)
+
+-- the same, from what the readers hand on
+pub given-fits : (g : Log) (fm : Formula) (l places f table : List ℕ) (scope : Scope) → Given g fm l places f table scope → (start : ℕ) → start < scope .events
+    → Fitting g fm (search (machine g fm) (scope .slots) start)
+given-fits g fm l places f table scope given start h =
+    search-fits g fm (given .setting .log) (given .setting .formula) (scope .slots) start (omega (arith, given .events-are))

@@ -21,15 +21,12 @@ use Rattle.search.specs.declared.Verdict.the-variants.{Accept, Reject}
 use Rattle.search.specs.declared.SearchAnswer.{SearchAnswer}
 use Rattle.search.specs.Search.{answerOf}
 use Rattle.analysis.specs.declared.Outcome.the-variants.{Done, Refused as RefusedOutcome}
-use Rattle.analysis.specs.Rows.{NamedRun, named, tiedAlike, verdict, noneRow, row, Written, all, upto, before, one, rowsFrom}
+use Rattle.analysis.specs.Rows.{NamedRun, named, verdict, noneRow, row, Written, all, upto, before, one, rowsFrom}
 use Rattle.analysis.specs.Analysis.{Analysed, writtenInto}
 use Rattle.analysis.proofs.Last.{last-is}
-use Rattle.threads.specs.declared.Rules.{Rules}
-use Rattle.analysis_code.specs.inner.Starts.{variables, runIf, runsIn, runOf, rowBy, isRefused, Turn, turnOf, resumed, Given}
-use Rattle.analysis_code.proofs.Ties.{tied-same}
+use Rattle.analysis_code.specs.inner.Starts.{variables, runIf, runsIn, runOf, rowBy, isRefused, Turn, turnOf, resumed, Fitting, Ties}
 use Rattle.analysis_code.proofs.Subsuming.{verdict-same}
 use Rattle.analysis_code.proofs.Reading.{put-put, put-nothing, runs-more, row-back, none-back}
-use Rattle.analysis_code.proofs.Fitting.{tied-exist, Fitting, search-fits}
 
 -- a part written back into its list
 pub part-back : (l ys ws : List ℕ) (a e : ℕ) → length ws ≡ 12 → e ≡ a + 12 → ys ≡ ws → take a l ++ (ys ++ drop (e - a) (drop a l)) ≡ put l a ws
@@ -74,8 +71,7 @@ module _ (g : Log) (fm : Formula) where
 
     -- otherwise: the row is written
     pub turn-written : (tied : List Bool) (a : Answer (machine g fm)) (r : SearchAnswer) (after : List ℕ) → Fitting g fm a
-        → ((x y : NamedRun) → tiedAlike (variables tied) x y ≡ tiedAlike (fm .tied) x y)
-        → r ≡ answerOf g fm a → isRefused (r .verdict) ≡ false → after ≡ put rows (start * 12) (rowBy (variables tied) start (runsIn start rows) r (r .verdict))
+        → Ties fm tied → r ≡ answerOf g fm a → isRefused (r .verdict) ≡ false → after ≡ put rows (start * 12) (rowBy (variables tied) start (runsIn start rows) r (r .verdict))
         → _≡_ {A = Turn} (record { written = true; rows = after }) (turnOf g fm start rows a)
     turn-written tied (found c t width) r after fit same e h p =
         let q = answer-row (variables tied) start (runsIn start rows) c t width (fit .short) in
@@ -195,12 +191,3 @@ module _ (g : Log) (fm : Formula) (slots : ℕ) where
         let q = turn-on start rows (λ now. rowsFrom g fm answer (length (g .events) - (start + 1)) (suc start) now) (answer start) fit h
         (sym (ap (λ (u : Turn). u .written) t)) in
         record { rest = rw (w, add-one start) (rw (add-one start) at (one-more ∙ q)) }
-
--- the same, from what the readers hand on
-module _ (g : Log) (fm : Formula) (l : List ℕ) (fields events : ℕ) (places f table : List ℕ) (rules : Rules) (tied : List Bool)
-    (given : Given g fm l fields events places f table rules tied) where
-  pub given-fits : (slots start : ℕ) → start < events → Fitting g fm (search (machine g fm) slots start)
-  given-fits slots start h = search-fits g fm (given .setting .log) (given .setting .formula) slots start (omega (arith, given .events-are))
-
-  pub given-ties : (x y : NamedRun) → tiedAlike (variables tied) x y ≡ tiedAlike (fm .tied) x y
-  given-ties = tied-same (fm .tied) tied (tied-exist g fm (given .setting .formula)) (given .tied-8) (given .tied-are)

@@ -1,10 +1,11 @@
 // The analysis: a row for every event of the log.
 use analysis::Outcome;
 use event_log::LogReading;
+use formula_code::FormulaReading;
 use refusal::Refusal;
 use search::SearchAnswer;
 use search::Verdict;
-use threads::Rules;
+use search_code::Scope;
 ghost use mathlib.Core.Path.{_≡_};
 ghost use Prim.Native.Nat.{_+_, _-_, _*_, _≤_, _<_};
 ghost use lib.ListN.{length, getD, take, drop};
@@ -241,36 +242,11 @@ fn is_refused(answer: SearchAnswer) -> bool
     }
 }
 
-// One start over rows already written: its search, and its row; false where it is crowded.
-fn one_start(
-    l: &[u8],
-    fields: usize,
-    events: usize,
-    places: &[usize; 1024],
-    f: &[u8],
-    table: &[usize; 128],
-    rules: Rules,
-    tied: [bool; 8],
-    start: usize,
-    slots: usize,
-    work: &mut [u32],
-    rows: &mut [u32],
-) -> bool
-    requires { ⌜ (slots * 192 ≤ length (now work)) × (1 ≤ slots) × (events ≤ 1024) × (start * 12 + 12 ≤ length (now rows)) ⌝ }
-    ensures { λ r. ⌜ OneStart (now (l .entry)) fields events (now (places .entry)) (now (f .entry)) (now (table .entry)) rules tied start slots (now (rows .entry)) (now (rows .exit)) r ⌝ }
+// One start over rows already written: its row, by its search's answer; false where it is crowded.
+fn one_start(rows: &mut [u32], tied: [bool; 8], start: usize, answer: SearchAnswer) -> bool
+    requires { ⌜ start * 12 + 12 ≤ length (now rows) ⌝ }
+    ensures { λ r. ⌜ OneStart tied start answer (now (rows .entry)) (now (rows .exit)) r ⌝ }
 {
-    let answer = search_code::search_from(
-        l,
-        fields,
-        events,
-        places,
-        f,
-        table,
-        rules,
-        start,
-        slots,
-        work,
-    );
     if is_refused(answer) {
         return false;
     }
@@ -284,37 +260,21 @@ fn one_start(
 // Every start in order, up to one that is crowded.
 fn all_starts(
     l: &[u8],
-    log: LogReading,
+    places: &[usize; 1024],
     f: &[u8],
     table: &[usize; 128],
-    rules: Rules,
+    scope: Scope,
     tied: [bool; 8],
-    slots: usize,
     work: &mut [u32],
     rows: &mut [u32],
 ) -> Outcome
-    requires { ⌜ (slots * 192 ≤ length (now work)) × (1 ≤ slots) × (log .events ≤ 1024) × (12 * log .events ≤ length (now rows)) ⌝ }
-    ensures { λ r. ⌜ AllStarts (now (l .entry)) log (now (f .entry)) (now (table .entry)) rules tied slots (now (rows .entry)) (now (rows .exit)) r ⌝ }
+    requires { ⌜ (scope .slots * 192 ≤ length (now work)) × (1 ≤ scope .slots) × (scope .events ≤ 1024) × (12 * scope .events ≤ length (now rows)) ⌝ }
+    ensures { λ r. ⌜ AllStarts (now (l .entry)) (now (places .entry)) (now (f .entry)) (now (table .entry)) scope tied (now (rows .entry)) (now (rows .exit)) r ⌝ }
 {
-    let fields = log.fields;
-    let events = log.events;
-    let places = log.places;
     let mut start: usize = 0;
-    while start < events {
-        if one_start(
-            l,
-            fields,
-            events,
-            &places,
-            f,
-            table,
-            rules,
-            tied,
-            start,
-            slots,
-            work,
-            rows,
-        ) {
+    while start < scope.events {
+        let answer = search_code::search_from(l, places, f, table, scope, start, work);
+        if one_start(rows, tied, start, answer) {
             start += 1;
         } else {
             return Outcome::Refused(Refusal::Crowded { place: start });
@@ -328,14 +288,12 @@ fn with_formula(
     l: &[u8],
     log: LogReading,
     f: &[u8],
-    table: &[usize; 128],
-    rules: Rules,
-    tied: [bool; 8],
+    formula: FormulaReading,
     work: &mut [u32],
     rows: &mut [u32],
 ) -> Outcome
     requires { ⌜ log .events ≤ 1024 ⌝ }
-    ensures { λ r. ⌜ WithFormula (now (l .entry)) log (now (f .entry)) (now (table .entry)) rules tied (now (work .entry)) (now (work .exit)) (now (rows .entry)) (now (rows .exit)) r ⌝ }
+    ensures { λ r. ⌜ WithFormula (now (l .entry)) log (now (f .entry)) formula (now (work .entry)) (now (work .exit)) (now (rows .entry)) (now (rows .exit)) r ⌝ }
 {
     if work.len() < 192 {
         return Outcome::Refused(Refusal::Short { needed: 192 });
@@ -344,8 +302,11 @@ fn with_formula(
     if rows.len() < needed {
         return Outcome::Refused(Refusal::Short { needed });
     }
-    let slots = search_code::slots_of(work.len());
-    all_starts(l, log, f, table, rules, tied, slots, work, rows)
+    let places = log.places;
+    let table = formula.table;
+    let tied = held_in(formula.tied);
+    let scope = search_code::scope_of(log, formula, search_code::slots_of(work.len()));
+    all_starts(l, &places, f, &table, scope, tied, work, rows)
 }
 
 // Behind the log's reader: the formula, then the rest.
@@ -357,14 +318,7 @@ fn with_log(l: &[u8], f: &[u8], log: LogReading, work: &mut [u32], rows: &mut [u
     let verdict = formula.verdict;
     match verdict {
         formula_code::Verdict::Refused(why) => Outcome::Refused(why),
-        formula_code::Verdict::Accepted => {
-            let table = formula.table;
-            let kinds = formula.kinds;
-            let rises = log.rises;
-            let rules = Rules { kinds, rises };
-            let tied = held_in(formula.tied);
-            with_formula(l, log, f, &table, rules, tied, work, rows)
-        }
+        formula_code::Verdict::Accepted => with_formula(l, log, f, formula, work, rows),
     }
 }
 

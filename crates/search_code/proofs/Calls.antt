@@ -12,17 +12,17 @@ use Rattle.event_log.specs.declared.Verdict.the-variants as LogVerdictIs
 use Rattle.event_log.specs.declared.LogReading.{LogReading}
 use Rattle.event_log.specs.Correct as LogCorrect
 use Rattle.event_log.specs.Encode as LogEncode
-use Rattle.event_log.specs.File.{logOf}
+use Rattle.event_log.specs.File.{LogFile, logOf}
 use Rattle.event_log.specs.Event.{Leads}
 use Rattle.event_log.specs.Read as LogRead
 use Rattle.event_log.proofs.Accepted as LogAccepted
 use Rattle.event_log.proofs.Places.{table-leads}
 use Rattle.event_log.proofs.Answers.{LogTaken, log-refused, log-taken}
+use Rattle.formula.specs.Formula.{Formula}
 use Rattle.formula.specs.Read as FormulaRead
 use Rattle.formula.proofs.Reading as FormulaAccepted
 use Rattle.runs.specs.inner.Search.{search}
 use Rattle.machine.specs.Machine.{machine}
-use Rattle.threads.specs.inner.Setting.{Setting}
 use Rattle.search.specs.declared.SearchAnswer.{SearchAnswer}
 use Rattle.formula_code.specs.declared.Verdict.the-variants as FormulaVerdictIs
 use Rattle.formula_code.specs.declared.FormulaReading.{FormulaReading}
@@ -31,49 +31,55 @@ use Rattle.search.specs.Call.{Untouched}
 use Rattle.search.proofs.Demand.{only-crowded}
 use Rattle.formula_code.specs.Answer.{answerOf as formulaAnswer, kindsOf, ReadsFormula}
 use Rattle.formula_code.proofs.Answers.{FormulaTaken, formula-refused, formula-taken}
-use Rattle.search_code.specs.inner.Turn.{SearchedFrom}
-use Rattle.search_code.specs.inner.Checks.{CheckedIs}
+use Rattle.search_code.specs.inner.Turn.{scopeOf, Given, SearchedFrom}
+use Rattle.search_code.specs.inner.Checks.{Accepted, CheckedIs}
 
 -- the slots fit the words, and there is one at least
 pub slots-fit : (words : ℕ) → 192 ≤ words → (slotsOf words * 192 ≤ words) × (1 ≤ slotsOf words)
 unfolding slotsOf
 slots-fit words h = omega arith
 
+-- what the readers of two accepted files hand on
+pub handed : (t : LogFile) (fm : Formula) (l f : List ℕ) (log : LogReading) (formula : FormulaReading) (slots : ℕ) → Accepted t fm l log f formula
+    → Given (logOf t) fm l (log .places) f (formula .table) (scopeOf log formula slots)
+unfolding LogRead.answerOf formulaAnswer kindsOf
+handed t fm l f log formula slots a =
+    record {
+      setting =
+          record {
+            log = a .log-correct .recorded;
+            formula = a .formula-correct;
+            bytes = a .formula-bytes;
+            table-is = ap (λ (x : FormulaReading). x .table) (a .formula-read);
+            kinds-are = ap (λ (x : FormulaReading). x .kinds) (a .formula-read);
+            rising-are = ap (λ (x : LogReading). x .rises) (a .log-read);
+          };
+      leads = subst (λ (ps : List ℕ). Leads l ps (logOf t)) (sym (ap (λ (x : LogReading). x .places) (a .log-read)))
+          (table-leads t l (a .log-correct) (a .log-bytes));
+      fields-are = ap (λ (x : LogReading). x .fields) (a .log-read);
+      events-are = ap (λ (x : LogReading). x .events) (a .log-read);
+    }
+
 module _ (l f : List ℕ) (log : LogReading) (formula : FormulaReading) (start : ℕ) (work : List ℕ) where
   pub outside : (r : SearchAnswer) → log .events ≤ start → r ≡ refusal (Outside start) → CheckedIs l log f formula start work work r
   unfolding checked LogRead.answerOf
-  outside r h q t fm c e z d b y =
-      let k : length ((logOf t) .events) ≤ start = omega (arith, ap (λ (x : LogReading). x .events) z) in
+  outside r h q t fm a =
+      let k : length ((logOf t) .events) ≤ start = omega (arith, ap (λ (x : LogReading). x .events) (a .log-read)) in
       (q ∙ rw (le-leb (length ((logOf t) .events)) start k), λ why v u. refl)
 
   pub too-short : (r : SearchAnswer) → start < log .events → length work < 192 → r ≡ refusal (Short 192) → CheckedIs l log f formula start work work r
   unfolding checked LogRead.answerOf
-  too-short r h w q t fm c e z d b y =
-      let k : start < length ((logOf t) .events) = omega (arith, ap (λ (x : LogReading). x .events) z) in
+  too-short r h w q t fm a =
+      let k : start < length ((logOf t) .events) = omega (arith, ap (λ (x : LogReading). x .events) (a .log-read)) in
       (q ∙ rw (lt-leb (length ((logOf t) .events)) start k, lt-ltb (length work) 192 w), λ why v u. refl)
 
   pub searched : (slots : ℕ) (after : List ℕ) (r : SearchAnswer) → start < log .events → 192 ≤ length work → slots ≡ slotsOf (length work)
-      → SearchedFrom l (log .fields) (log .events) (log .places) f (formula .table) (record {
-        kinds =
-            formula .kinds;
-        rises = log .rises;
-      }) start slots r → CheckedIs l log f formula start work after r
-  unfolding checked LogRead.answerOf formulaAnswer kindsOf
-  searched slots after r h w n s t fm c e z d b y =
+      → SearchedFrom l (log .places) f (formula .table) (scopeOf log formula slots) start r → CheckedIs l log f formula start work after r
+  unfolding checked LogRead.answerOf
+  searched slots after r h w n s t fm a =
       let g = logOf t in
-      let k : start < length (g .events) = omega (arith, ap (λ (x : LogReading). x .events) z) in
-      let setting : Setting g fm f (formula .table) (record { kinds = formula .kinds; rises = log .rises }) =
-      record {
-        log = c .recorded;
-        formula = d;
-        bytes = b;
-        table-is = ap (λ (x : FormulaReading). x .table) y;
-        kinds-are = ap (λ (x : FormulaReading). x .kinds) y;
-        rising-are = ap (λ (x : LogReading). x .rises) z;
-      }
-      in
-      let leads : Leads l (log .places) g = subst (λ (ps : List ℕ). Leads l ps g) (sym (ap (λ (x : LogReading). x .places) z)) (table-leads t l c e) in
-      let answer = s g fm setting leads (ap (λ (x : LogReading). x .fields) z) (ap (λ (x : LogReading). x .events) z) h in (
+      let k : start < length (g .events) = omega (arith, ap (λ (x : LogReading). x .events) (a .log-read)) in
+      let answer = s g fm (handed t fm l f log formula slots a) h in (
         rw (lt-leb (length (g .events)) start k, le-ltb (length work) 192 w, ← n) answer,
         λ why v u. absurd (only-crowded g fm (search (machine g fm) slots start) why (ap (λ (x : SearchAnswer). x .verdict) (sym answer) ∙ v) u),
       )
@@ -124,7 +130,17 @@ module _ (l f : List ℕ) (start : ℕ) (work : List ℕ) (log : LogReading) (re
         by-search after x h =
             let fm = both .formula in
             let c = FormulaAccepted.accepted-correct (length (taken .file .fields)) f fm more (both .is) in
-            let r = h (taken .file) fm (correct .1) (correct .0) log-is (c .1) (c .0) (formula-read ∙ ap formulaAnswer (both .is)) in (
+            let a : Accepted (taken .file) fm l log f formula =
+            record {
+              log-correct = correct .1;
+              log-bytes = correct .0;
+              log-read = log-is;
+              formula-correct = c .1;
+              formula-bytes = c .0;
+              formula-read = formula-read ∙ ap formulaAnswer (both .is);
+            }
+            in
+            let r = h (taken .file) fm a in (
               r .0 ∙ sym (ap (λ y. withLog y f start (length work)) (taken .is) ∙ ap (λ y. withFormula (logOf (taken .file)) y start (length work)) (both .is)),
               r .1,
             )

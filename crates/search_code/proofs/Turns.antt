@@ -11,7 +11,7 @@ use lib.Dec.{eqb}
 use Rattle.refusal.specs.declared.Refusal.the-variants.{Crowded as CrowdedAt}
 use Rattle.event_log.specs.declared.Loaded.{Loaded}
 use Rattle.event_log.specs.Log.{Log}
-use Rattle.event_log.specs.Event.{loadedAt, Leads}
+use Rattle.event_log.specs.Event.{loadedAt}
 use Rattle.formula.specs.Formula.{Formula}
 use Rattle.runs.specs.inner.Search as Runs
 use Rattle.machine.specs.Machine.{machine}
@@ -27,8 +27,9 @@ use Rattle.search.specs.declared.Verdict.the-variants.{Absent}
 use Rattle.search.specs.declared.SearchAnswer.{SearchAnswer}
 use Rattle.search_code.specs.declared.Outcome.the-variants.{Found, Crowded, Waiting}
 use Rattle.search_code.specs.declared.Turn.{Turn}
+use Rattle.search_code.specs.declared.Scope.{Scope}
 use Rattle.search.specs.Search.{without, refusal}
-use Rattle.search_code.specs.inner.Turn.{momentOf, namedAnswer, TurnTo, TurnIs, TurnOf, SearchedFrom}
+use Rattle.search_code.specs.inner.Turn.{momentOf, namedAnswer, TurnTo, TurnIs, TurnOf, Given, SearchedFrom}
 use Rattle.search_code.proofs.Loop.{event-there, Going, going-start, going-next, going-onward, going-found, going-crowded, going-over}
 
 module _ (f table : List ℕ) (rules : Rules) (m : Moment) (z : Seats) (before after : List ℕ) (b : Best) (e : EndingIs f table rules m z before b) where
@@ -66,58 +67,56 @@ turn-of f steps rules m z before after table r o t g fm s l k =
     t g fm (record { setting = setting; loads = l; offsets = subst (λ (x : List ℕ). EventTable f x (rules .rises) m table) (s .table-is) o }) k
 
 -- before event n, of whatever log and formula the bytes are
-abbrev pub Searching : List ℕ → ℕ → ℕ → List ℕ → List ℕ → List ℕ → Rules → ℕ → ℕ → ℕ → ℕ → ℕ → ℕ → List ℕ → Type 0
-Searching l fields events places f table rules i slots n half count width work =
-    (g : Log) (fm : Formula) → Setting g fm f table rules → Leads l places g → fields ≡ length (g .fields) → events ≡ length (g .events) → i < events
-    → Going g fm slots i n half count width work
+abbrev pub Searching : List ℕ → List ℕ → List ℕ → List ℕ → Scope → ℕ → ℕ → ℕ → ℕ → ℕ → List ℕ → Type 0
+Searching l places f table scope i n half count width work =
+    (g : Log) (fm : Formula) → Given g fm l places f table scope → i < scope .events → Going g fm (scope .slots) i n half count width work
 
-module _ (l : List ℕ) (fields events : ℕ) (places f table : List ℕ) (rules : Rules) (i slots : ℕ) where
-  pub searching-start : (work : List ℕ) → list 0 1 work ≡ originThread ∷ [] → Searching l fields events places f table rules i slots i 0 1 0 work
-  searching-start work o g fm s e a b h = going-start g fm f table rules s slots i work (omega arith) o
+module _ (l places f table : List ℕ) (scope : Scope) (i : ℕ) where
+  pub searching-start : (work : List ℕ) → list 0 1 work ≡ originThread ∷ [] → Searching l places f table scope i i 0 1 0 work
+  searching-start work o g fm x h = going-start g fm f table (scope .rules) (x .setting) (scope .slots) i work (omega (arith, x .events-are)) o
 
-  module _ (n half count width : ℕ) (work : List ℕ) (S : Searching l fields events places f table rules i slots n half count width work) where
+  module _ (n half count width : ℕ) (work : List ℕ) (S : Searching l places f table scope i n half count width work) where
     -- the log is over
-    pub searching-over : (r : SearchAnswer) → events ≤ n → width ≤ slots → r ≡ without Absent width
-        → SearchedFrom l fields events places f table rules i slots r × (r .width ≤ slots)
+    pub searching-over : (r : SearchAnswer) → scope .events ≤ n → width ≤ scope .slots → r ≡ without Absent width
+        → SearchedFrom l places f table scope i r × (r .width ≤ scope .slots)
     searching-over r h w q = (
-      λ g fm s e a b k. q ∙ going-over g fm f table rules s slots i n half count width work (S g fm s e a b k) (omega arith),
-      omega
-          (arith, ap (λ (x : SearchAnswer). x .width) q),
+      λ g fm x k. q ∙ going-over g fm f table (scope .rules) (x .setting) (scope .slots) i n half count width work (S g fm x k) (omega (arith, x .events-are)),
+      omega (arith, ap (λ (y : SearchAnswer). y .width) q),
     )
 
-    module _ (more : n < events) (loaded : Loaded) (there : loaded ≡ loadedAt l fields (getD places n 0)) (after : List ℕ) (turn : Turn)
-        (is : TurnOf f table rules (momentOf n (loaded .event)) (record {
-          half =
-              half;
-          count = count;
-          slots = slots;
-        }) work after turn) where
+    module _ (more : n < scope .events) (loaded : Loaded) (there : loaded ≡ loadedAt l (scope .fields) (getD places n 0)) (after : List ℕ) (turn : Turn)
+        (is : TurnOf f table (scope .rules) (momentOf n (loaded .event)) (record { half = half; count = count; slots = scope .slots }) work after turn) where
       -- what the event does
-      turned : (g : Log) (fm : Formula) → Setting g fm f table rules → Leads l places g → fields ≡ length (g .fields) → events ≡ length (g .events) → i < events
-          → TurnTo g fm half count slots n work after (turn .thread) (turn .outcome)
-      turned g fm s e a b k = is g fm s (event-there g l places fields n loaded (s .log) e a (omega arith) there) (S g fm s e a b k .kept)
+      turned : (g : Log) (fm : Formula) → Given g fm l places f table scope → i < scope .events
+          → TurnTo g fm half count (scope .slots) n work after (turn .thread) (turn .outcome)
+      turned g fm x k =
+          let here = event-there g l places (scope .fields) n loaded (x .setting .log) (x .leads) (x .fields-are) (omega (arith, x .events-are)) there in
+          is g fm (x .setting) here (S g fm x k .kept)
 
-      pub searching-next : (m n′ : ℕ) → turn .outcome ≡ Waiting m → n′ ≡ cond (eqb m 0) events (n + 1)
-          → Searching l fields events places f table rules i slots n′ (1 - half) m (max width m) after
-      searching-next m n′ q o g fm s e a b k =
-          let x = subst (TurnTo g fm half count slots n work after (turn .thread)) q (turned g fm s e a b k) in
-          let go = going-next g fm f table rules s slots i n half count width work (S g fm s e a b k) m (turn .thread) after (omega arith) x in
-          going-onward g fm slots i (n + 1) (1 - half) m (max width m) after n′ (o ∙ ap (λ y. cond (eqb m 0) y (n + 1)) b) go
+      pub searching-next : (m n′ : ℕ) → turn .outcome ≡ Waiting m → n′ ≡ cond (eqb m 0) (scope .events) (n + 1)
+          → Searching l places f table scope i n′ (1 - half) m (max width m) after
+      searching-next m n′ q o g fm x k =
+          let y = subst (TurnTo g fm half count (scope .slots) n work after (turn .thread)) q (turned g fm x k) in
+          let go = going-next g fm f table (scope .rules) (x .setting) (scope .slots) i n half count width work (S g fm x k) m (turn .thread) after
+          (omega (arith, x .events-are)) y in
+          going-onward g fm (scope .slots) i (n + 1) (1 - half) m (max width m) after n′ (o ∙ ap (λ e. cond (eqb m 0) e (n + 1)) (x .events-are)) go
 
-      pub searching-found : (r : SearchAnswer) → turn .outcome ≡ Found → width ≤ slots → r ≡ namedAnswer (rules .kinds) (turn .thread) width
-          → SearchedFrom l fields events places f table rules i slots r × (r .width ≤ slots)
+      pub searching-found : (r : SearchAnswer) → turn .outcome ≡ Found → width ≤ scope .slots → r ≡ namedAnswer (scope .rules .kinds) (turn .thread) width
+          → SearchedFrom l places f table scope i r × (r .width ≤ scope .slots)
       searching-found r q w z = (
-        λ g fm s e a b k.
-            let x = subst (TurnTo g fm half count slots n work after (turn .thread)) q (turned g fm s e a b k) in
-            z ∙ going-found g fm f table rules s slots i n half count width work (S g fm s e a b k) (turn .thread) after (omega arith) x,
-        omega (arith, ap (λ (x : SearchAnswer). x .width) z),
+        λ g fm x k.
+            let y = subst (TurnTo g fm half count (scope .slots) n work after (turn .thread)) q (turned g fm x k) in
+            z ∙ going-found g fm f table (scope .rules) (x .setting) (scope .slots) i n half count width work (S g fm x k) (turn .thread) after
+            (omega (arith, x .events-are)) y,
+        omega (arith, ap (λ (y : SearchAnswer). y .width) z),
       )
 
       pub searching-crowded : (r : SearchAnswer) → turn .outcome ≡ Crowded → r ≡ refusal (CrowdedAt n)
-          → SearchedFrom l fields events places f table rules i slots r × (r .width ≤ slots)
+          → SearchedFrom l places f table scope i r × (r .width ≤ scope .slots)
       searching-crowded r q z = (
-        λ g fm s e a b k.
-            let x = subst (TurnTo g fm half count slots n work after (turn .thread)) q (turned g fm s e a b k) in
-            z ∙ going-crowded g fm f table rules s slots i n half count width work (S g fm s e a b k) (turn .thread) after (omega arith) x,
-        omega (arith, ap (λ (x : SearchAnswer). x .width) z),
+        λ g fm x k.
+            let y = subst (TurnTo g fm half count (scope .slots) n work after (turn .thread)) q (turned g fm x k) in
+            z ∙ going-crowded g fm f table (scope .rules) (x .setting) (scope .slots) i n half count width work (S g fm x k) (turn .thread) after
+            (omega (arith, x .events-are)) y,
+        omega (arith, ap (λ (y : SearchAnswer). y .width) z),
       )

@@ -20,7 +20,7 @@ ghost use Rattle.slots.specs.inner.Threads.{originThread};
 ghost use Rattle.slots.specs.inner.Words.{list};
 ghost use Rattle.search.specs.Search.{slotsOf, without, refusal};
 ghost use Rattle.search.specs.Call.{Searched};
-ghost use Rattle.search_code.specs.inner.Turn.{entriesOf, verdictAt, namedAnswer, momentOf, TurnIs, TurnOf, Fits, SearchedFrom};
+ghost use Rattle.search_code.specs.inner.Turn.{entriesOf, verdictAt, namedAnswer, momentOf, TurnIs, TurnOf, Fits, scopeOf, SearchedFrom};
 ghost use Rattle.threads.specs.inner.Setting.{Wide};
 ghost use Rattle.threads.specs.inner.Event.{Seated};
 ghost use Rattle.search_code.specs.inner.Checks.{CheckedIs, refusalOfLog, refusalOfFormula};
@@ -43,6 +43,14 @@ struct Entries {
     steps: usize,
     events: [u32; 32],
     numbers: [u32; 32],
+}
+
+// What a search is over: the log's number of fields and of events, the rules, and how many slots there are.
+pub struct Scope {
+    pub fields: usize,
+    pub events: usize,
+    pub rules: Rules,
+    pub slots: usize,
 }
 
 // The waiting list before the first event: the start configuration, in slot 0.
@@ -193,17 +201,17 @@ fn at_event(
     work: &mut [u32],
     seats: Seats,
     f: &[u8],
-    wide: [usize; 256],
+    wide: &[usize; 256],
     rules: Rules,
     moment: Moment,
 ) -> Turn
-    requires { ⌜ Seated seats (now work) × (moment .number < 1024) ⌝ }
-    ensures { λ r. ⌜ ((steps : List ℕ) → Wide steps wide → TurnOf (now (f .entry)) steps rules moment seats (now (work .entry)) (now (work .exit)) r) ⌝ }
+    requires { ⌜ Seated seats (now work) × (moment .number < 1024) × (length (now wide) ≡ 256) ⌝ }
+    ensures { λ r. ⌜ ((steps : List ℕ) → Wide steps (now (wide .entry)) → TurnOf (now (f .entry)) steps rules moment seats (now (work .entry)) (now (work .exit)) r) ⌝ }
     ensures { λ r. ⌜ Fits (seats .slots) (r .outcome) × (length (now (work .exit)) ≡ length (now (work .entry))) ⌝ }
 {
     let rises = rules.rises;
-    let mut table = wide;
-    threads::table::mark_states(&mut table, &work[..], seats, f, &wide, rises, moment);
+    let mut table = *wide;
+    threads::table::mark_states(&mut table, &work[..], seats, f, wide, rises, moment);
     one_event(work, seats, f, &table, rules, moment)
 }
 
@@ -218,30 +226,30 @@ fn onward(n: usize, more: usize, events: usize) -> usize
 // The search from one event of an accepted log with an accepted formula, event by event.
 pub fn search_from(
     l: &[u8],
-    fields: usize,
-    events: usize,
     places: &[usize; 1024],
     f: &[u8],
     table: &[usize; 128],
-    rules: Rules,
+    scope: Scope,
     start: usize,
-    slots: usize,
     work: &mut [u32],
 ) -> SearchAnswer
-    requires { ⌜ (slots * 192 ≤ length (now work)) × (1 ≤ slots) × (events ≤ 1024) ⌝ }
-    ensures { λ r. ⌜ SearchedFrom (now (l .entry)) fields events (now (places .entry)) (now (f .entry)) (now (table .entry)) rules start slots r × ((r .width ≤ slots) × (length (now (work .exit)) ≡ length (now (work .entry)))) ⌝ }
+    requires { ⌜ (scope .slots * 192 ≤ length (now work)) × (1 ≤ scope .slots) × (scope .events ≤ 1024) ⌝ }
+    ensures { λ r. ⌜ SearchedFrom (now (l .entry)) (now (places .entry)) (now (f .entry)) (now (table .entry)) scope start r ⌝ }
+    ensures { λ r. ⌜ (r .width ≤ scope .slots) × (length (now (work .exit)) ≡ length (now (work .entry))) ⌝ }
 {
     origin_in(work);
     let wide = threads::table::widened(table);
+    let rules = scope.rules;
+    let slots = scope.slots;
     let mut half: usize = 0;
     let mut count: usize = 1;
     let mut width: usize = 0;
     let mut n = start;
-    while n < events {
-        let loaded = event_log::event_at(l, fields, places[n]);
+    while n < scope.events {
+        let loaded = event_log::event_at(l, scope.fields, places[n]);
         let event = loaded.event;
         let seats = Seats { half, count, slots };
-        let turn = at_event(work, seats, f, wide, rules, moment_of(n, event));
+        let turn = at_event(work, seats, f, &wide, rules, moment_of(n, event));
         let outcome = turn.outcome;
         match outcome {
             Outcome::Found => return named(turn, rules, width),
@@ -250,7 +258,7 @@ pub fn search_from(
                 count = more;
                 width = larger(width, more);
                 half = 1 - half;
-                n = onward(n, more, events);
+                n = onward(n, more, scope.events);
             }
         }
     }
@@ -263,6 +271,20 @@ pub fn slots_of(words: usize) -> usize
 {
     let slots = words / 192;
     if slots < 64 { slots } else { 64 }
+}
+
+// What the readers of two accepted files say of a search with so many slots.
+pub fn scope_of(log: LogReading, formula: FormulaReading, slots: usize) -> Scope
+    ensures { λ r. ⌜ r ≡ scopeOf log formula slots ⌝ }
+{
+    let kinds = formula.kinds;
+    let rises = log.rises;
+    Scope {
+        fields: log.fields,
+        events: log.events,
+        rules: Rules { kinds, rises },
+        slots,
+    }
 }
 
 // A call whose log and formula are accepted: the start and the lent words are checked, then the search runs.
@@ -288,22 +310,8 @@ fn checked(
     }
     let places = log.places;
     let table = formula.table;
-    let kinds = formula.kinds;
-    let rises = log.rises;
-    let rules = Rules { kinds, rises };
-    let slots = slots_of(words);
-    search_from(
-        l,
-        log.fields,
-        events,
-        &places,
-        f,
-        &table,
-        rules,
-        start,
-        slots,
-        work,
-    )
+    let scope = scope_of(log, formula, slots_of(words));
+    search_from(l, &places, f, &table, scope, start, work)
 }
 
 // The refusal of a log that was not accepted.

@@ -1,7 +1,11 @@
 -- `analysis_code::with_formula` meets its contract: 10 for work words, 10 for rows, then every start.
 use lib.ListN.{length}
-use Rattle.search_code.proofs.Calls.{slots-fit}
-use Rattle.analysis_code.proofs.Calls.{short-work, short-rows, enough}
+use mathlib.Core.Path.{ap}
+use Rattle.event_log.specs.File.{logOf}
+use Rattle.event_log.specs.Read.{answerOf}
+use Rattle.event_log.specs.declared.LogReading.{LogReading}
+use Rattle.search_code.proofs.Calls.{slots-fit, handed}
+use Rattle.analysis_code.proofs.Calls.{short-work, short-rows, enough, mask-ties}
 use denote.Ref.{now}
 use borrow.Author.Needs.{needs}
 use Rattle.analysis_code.proofs.with_formula.Statement.{statement}
@@ -11,28 +15,38 @@ returns : tie.Need-returns
 returns c =
     let c5 = c .before .before .before .before .before in
     let a = c5 .args in
-    λ g fm given. short-work g fm (now (a .work)) (now (a .rows)) (c .if1 .taken)
+    λ t fm x. short-work (logOf t) fm (now (a .work)) (now (a .rows)) (c .if1 .taken)
 
 mul-needed : tie.Need-mul-needed
 mul-needed c = search needs
 
 returns-2 : tie.Need-returns-2
-returns-2 c = let b = c .before .before in
-    let a = b .before .before .before .before .before .args in
-    λ g fm given. short-rows g fm (now (a .work)) (now (a .rows)) (a .log .events) (given .events-are) (b .if1 .left) (c .if2 .taken)
+unfolding answerOf
+returns-2 c =
+    let c2 = c .before .before in
+    let c7 = c2 .before .before .before .before .before in
+    let a = c7 .args in
+    λ t fm x. short-rows (logOf t) fm (now (a .work)) (now (a .rows)) (a .log .events) (ap (λ (y : LogReading). y .events) (x .log-read)) (c2 .if1 .left)
+    (c .if2 .taken)
+
+held-in-requires : tie.Need-held-in-requires
+held-in-requires c κs = search needs
 
 slots-of-requires : tie.Need-slots-of-requires
 slots-of-requires c κs = search needs
 
+scope-of-requires : tie.Need-scope-of-requires
+scope-of-requires c κs = search needs
+
 all-starts-requires : tie.Need-all-starts-requires
 all-starts-requires c κs =
-    let c3 = c .before .before .before in
-    let c5 = c3 .before .before in
-    let c10 = c5 .before .before .before .before .before in
-    let a = c10 in
-    let n = c .before .before .slots-of .ensures in
-    let s = slots-fit (length (now (a .args .work))) (c5 .if1 .left) in
-    (rw n (s .0), rw n (s .1), a .pre, c3 .if2 .left)
+    let c4 = c .before .before .before .before in
+    let c5 = c4 .before in
+    let c9 = c5 .before .before .before .before in
+    let c11 = c9 .before .before in
+    let c16 = c11 .before .before .before .before .before in
+    let s = slots-fit (length (now (c16 .args .work))) (c11 .if1 .left) in
+    rw (c4 .scope-of .ensures, c5 .slots-of .ensures) (s .0, s .1, c16 .pre, c9 .if2 .left)
 
 same-length : tie.Need-same-length
 same-length c = search needs
@@ -41,13 +55,23 @@ same-length-2 : tie.Need-same-length-2
 same-length-2 c = search needs
 
 returns-3 : tie.Need-returns-3
+unfolding answerOf
 returns-3 c =
-    let a = c .before .before .before .before .before .before .before .before .before .before .before .before .before .before .before .args in
-    let n = c .before .before .before .before .before .before .before .slots-of in
-    λ g fm given. enough g fm (now (a .work)) (now (a .rows)) (a .log .events) (n .result) _ _ _ (given .events-are)
-    (c .before .before .before .before .before .before .before .before .before .before .if1 .left)
-    (c .before .before .before .before .before .before .before .before .if2 .left) (n .ensures) (search needs)
-    (c .before .before .before .before .all-starts .ensures g fm given)
+    let c3 = c .before .before .before in
+    let c4 = c3 .before in
+    let c9 = c4 .before .before .before .before .before in
+    let c10 = c9 .before in
+    let c11 = c10 .before in
+    let c14 = c11 .before .before .before in
+    let c16 = c14 .before .before in
+    let c21 = c16 .before .before .before .before .before in
+    let a = c21 .args in
+    let n = c10 .slots-of in
+    let all = rw (c9 .scope-of .ensures) at (c4 .all-starts .ensures) in
+    λ t fm x. enough (logOf t) fm (now (a .work)) (now (a .rows)) (a .log .events) (n .result) _ _ _ (ap (λ (y : LogReading). y .events) (x .log-read))
+    (c16 .if1 .left) (c14 .if2 .left) (n .ensures) (c3 .work .given)
+    (all (logOf t) fm (handed t fm (now (a .l)) (now (a .f)) (a .log) (a .formula) (n .result) x)
+    (mask-ties t fm (now (a .l)) (now (a .f)) (a .log) (a .formula) (c11 .held-in .result) x (c11 .held-in .ensures)))
 
 pub with-formula-spec : {M : Type 1} → statement M
 with-formula-spec =
@@ -56,7 +80,9 @@ with-formula-spec =
     returns
     mul-needed
     returns-2
+    held-in-requires
     slots-of-requires
+    scope-of-requires
     all-starts-requires
     same-length
     same-length-2

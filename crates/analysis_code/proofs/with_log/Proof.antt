@@ -22,20 +22,19 @@ enum-known-verdict c = search needs
 enum-told : tie.Need-enum-told
 enum-told c = search needs
 
-held-in-requires : tie.Need-held-in-requires
-held-in-requires c κs = search needs
-
 with-formula-requires : tie.Need-with-formula-requires
 with-formula-requires c κs = search needs
 
 returns : tie.Need-returns
 unfolding answerOf
 returns c =
-    let c3 = c .before .before .before in
+    let c1 = c .before in
+    let c3 = c1 .before .before in
     let c8 = c3 .before .before .before .before .before in
-    λ t e b ok. refused-formula (logOf t) (now (c8 .args .f)) (now (c8 .args .work)) (now (c8 .args .rows)) (c3 .read-formula .result) _
-    (c3 .read-formula .ensures ∙ ap (λ n. formulaAnswer (readFormula n (now (c8 .args .f)))) (ap (λ (x : LogReading). x .fields) e))
-    (c .before .verdict .given .1)
+    let a = c8 .args in
+    let r = c3 .read-formula in
+    λ t e b ok. refused-formula (logOf t) (now (a .f)) (now (a .work)) (now (a .rows)) (r .result) _
+    (r .ensures ∙ ap (λ n. formulaAnswer (readFormula n (now (a .f)))) (ap (λ (x : LogReading). x .fields) e)) (c1 .verdict .given .1)
 
 same-length : tie.Need-same-length
 same-length c = search needs
@@ -47,17 +46,16 @@ returns-2 : tie.Need-returns-2
 unfolding answerOf
 returns-2 c =
     let c4 = c .before .before .before .before in
-    let c8 = c4 .before .before .before .before in
-    let c12 = c8 .before .before .before .before in
+    let c7 = c4 .before .before .before in
+    let c9 = c7 .before .before in
+    let c12 = c9 .before .before .before in
     let c14 = c12 .before .before in
-    let c17 = c14 .before .before .before in
-    let c19 = c17 .before .before in
-    let a = c19 .args in
-    let r = c14 .read-formula .result in
-    let bytes = all-bytes (now (a .f)) (λ i. omega (arith, c17 .shared-slice-known2 .given i)) in
-    λ t e b ok. accepted-formula t (now (a .l)) (now (a .f)) (a .log) r bytes e b ok
-    (c14 .read-formula .ensures ∙ ap (λ n. formulaAnswer (readFormula n (now (a .f)))) (ap (λ (x : LogReading). x .fields) e)) (c12 .enum-told .given .1)
-    (c8 .held-in .result) (c8 .held-in .ensures) (now (a .work)) _ (now (a .rows)) _ _ (λ fm. c4 .with-formula .ensures (logOf t) fm)
+    let a = c14 .args in
+    let r = c9 .read-formula in
+    let bytes = all-bytes (now (a .f)) (λ i. omega (arith, c12 .shared-slice-known2 .given i)) in
+    λ t e b ok. accepted-formula t (now (a .l)) (now (a .f)) (a .log) (r .result) bytes e b ok
+    (r .ensures ∙ ap (λ n. formulaAnswer (readFormula n (now (a .f)))) (ap (λ (x : LogReading). x .fields) e)) (c7 .enum-told .given .1)
+    (now (a .work)) _ (now (a .rows)) _ _ (λ fm. c4 .with-formula .ensures t fm)
 
 pub with-log-spec : {M : Type 1} → statement M
 with-log-spec =
@@ -66,7 +64,6 @@ with-log-spec =
     read-formula-requires
     enum-known-verdict
     enum-told
-    held-in-requires
     with-formula-requires
     returns
     same-length

@@ -1,5 +1,5 @@
 -- Rows read back as the runs that they hold, and one start over rows already written.
-use Prim.Native.Nat.{ℕ, zero, suc, _-_, _*_, _/_, _%_, _<_, min}
+use Prim.Native.Nat.{ℕ, zero, suc, _-_, _*_, _/_, _%_, _≤_, min}
 use mathlib.Core.Path.{_≡_}
 use mathlib.Core.Bool.{Bool, true, false, cond, not}
 use mathlib.Core.List.{List, [], _∷_, _++_}
@@ -9,26 +9,27 @@ use Rattle.refusal.specs.declared.Refusal.the-variants.{Crowded}
 use Rattle.event_log.specs.Log.{Log}
 use Rattle.event_log.specs.Encode as LogEncode
 use Rattle.event_log.specs.File.{LogFile, logOf}
-use Rattle.event_log.specs.Event.{Leads}
 use Rattle.event_log.specs.Correct as LogCorrect
 use Rattle.event_log.specs.declared.LogReading.{LogReading}
 use Rattle.event_log.specs.Read as LogRead
 use Rattle.formula.specs.Formula.{Formula}
-use Rattle.formula.specs.Lookup.{isTied}
 use Rattle.formula.specs.Read as FormulaRead
 use Rattle.runs.specs.inner.Search.{search}
 use Rattle.runs.specs.Answer.{Answer, found, absent, crowded}
 use Rattle.machine.specs.Machine.{machine}
 use Rattle.slots.specs.inner.Words.{put}
-use Rattle.threads.specs.declared.Rules.{Rules}
-use Rattle.threads.specs.inner.Setting.{Setting}
 use Rattle.search.specs.declared.Verdict.{Verdict}
 use Rattle.search.specs.declared.Verdict.the-variants.{Refused, Absent, Accept, Reject}
 use Rattle.search.specs.declared.SearchAnswer.{SearchAnswer}
+use Rattle.search.specs.Search.{answerOf}
+use Rattle.formula_code.specs.declared.FormulaReading.{FormulaReading}
+use Rattle.search_code.specs.declared.Scope.{Scope}
+use Rattle.search_code.specs.inner.Turn.{Given}
+use Rattle.search_code.specs.inner.Checks.{Accepted}
 use Rattle.analysis_code.specs.declared.RowRun.{RowRun}
 use Rattle.analysis.specs.declared.Outcome.{Outcome}
 use Rattle.analysis.specs.declared.Outcome.the-variants.{Done, Refused as RefusedOutcome}
-use Rattle.analysis.specs.Rows.{NamedRun, named, alike, verdict, noneRow, row, Written, all, upto, rowsFrom}
+use Rattle.analysis.specs.Rows.{NamedRun, named, alike, tiedAlike, verdict, noneRow, row, Written, all, upto, rowsFrom}
 use Rattle.analysis.specs.Analysis.{Analysed, writtenInto, checked, withFormula}
 use Rattle.analysis.specs.Call.{Leaves}
 
@@ -100,35 +101,38 @@ abbrev pub resumed : ℕ → Written → List ℕ → Analysed
 resumed start (all ws) rows = record { outcome = Done; rows = put rows (start * 12) ws }
 resumed start (upto i ws) rows = record { outcome = RefusedOutcome (Crowded i); rows = put rows (start * 12) ws }
 
--- a log and a formula, as the readers of two accepted files hand them on
-pub record Given (g : Log) (fm : Formula) (l : List ℕ) (fields events : ℕ) (places f table : List ℕ) (rules : Rules) (tied : List Bool) : Type 0 where
-  pub setting : Setting g fm f table rules
-  pub leads : Leads l places g
-  pub fields-are : fields ≡ length (g .fields)
-  pub events-are : events ≡ length (g .events)
-  pub tied-8 : length tied ≡ 8
-  pub tied-are : (v : ℕ) → v < 8 → getD tied v false ≡ isTied v (fm .tied)
+-- what a row needs of a run that is named: at most 32 steps, and a place for each of the 8 variables
+pub record Bounded (steps held values : ℕ) : Type 0 where
+  pub short : steps ≤ 32
+  pub held-8 : held ≡ 8
+  pub values-8 : values ≡ 8
 
--- the log as its reader's answer has it
-abbrev pub Handed : (g : Log) (fm : Formula) (l : List ℕ) → LogReading → (f table : List ℕ) → Rules → List Bool → Type 0
-Handed g fm l log f table rules tied = Given g fm l (log .fields) (log .events) (log .places) f table rules tied
+abbrev pub Fitting : (g : Log) (fm : Formula) → Answer (machine g fm) → Type 0
+Fitting g fm (found c t width) = Bounded (length t) (length (c .held)) (length (c .values))
+Fitting g fm (absent width) = Unit {0}
+Fitting g fm (crowded n) = Unit {0}
+
+-- the marks of the tied variables tie as the formula does
+abbrev pub Ties : Formula → List Bool → Type 0
+Ties fm tied = (a b : NamedRun) → tiedAlike (variables tied) a b ≡ tiedAlike (fm .tied) a b
 
 -- what one start leaves, over rows already written: "writes 12 words", or crowded
-abbrev pub OneStart : List ℕ → ℕ → ℕ → List ℕ → List ℕ → List ℕ → Rules → List Bool → ℕ → ℕ → List ℕ → List ℕ → Bool → Type 0
-OneStart l fields events places f table rules tied start slots before after r =
-    (g : Log) (fm : Formula) → Given g fm l fields events places f table rules tied → start < events
-    → _≡_ {A = Turn} (record { written = r; rows = after }) (turnOf g fm start before (search (machine g fm) slots start))
+abbrev pub OneStart : List Bool → ℕ → SearchAnswer → List ℕ → List ℕ → Bool → Type 0
+OneStart tied start answer before after r =
+    (g : Log) (fm : Formula) (a : Answer (machine g fm)) → answer ≡ answerOf g fm a → Fitting g fm a → Ties fm tied
+    → _≡_ {A = Turn} (record { written = r; rows = after }) (turnOf g fm start before a)
 
 -- what all starts leave
-abbrev pub AllStarts : List ℕ → LogReading → List ℕ → List ℕ → Rules → List Bool → ℕ → List ℕ → List ℕ → Outcome → Type 0
-AllStarts l log f table rules tied slots before after r =
-    (g : Log) (fm : Formula) → Handed g fm l log f table rules tied
-    → _≡_ {A = Analysed} (record { outcome = r; rows = after }) (writtenInto (rowsFrom g fm (search (machine g fm) slots) (length (g .events)) 0 []) before)
+abbrev pub AllStarts : List ℕ → List ℕ → List ℕ → List ℕ → Scope → List Bool → List ℕ → List ℕ → Outcome → Type 0
+AllStarts l places f table scope tied before after r =
+    (g : Log) (fm : Formula) → Given g fm l places f table scope → Ties fm tied
+    → _≡_ {A = Analysed} (record { outcome = r; rows = after })
+    (writtenInto (rowsFrom g fm (search (machine g fm) (scope .slots)) (length (g .events)) 0 []) before)
 
 -- what is left behind the formula's reader, and behind the log's
-abbrev pub WithFormula : List ℕ → LogReading → List ℕ → List ℕ → Rules → List Bool → List ℕ → List ℕ → List ℕ → List ℕ → Outcome → Type 0
-WithFormula l log f table rules tied work work-after rows rows-after r =
-    (g : Log) (fm : Formula) → Handed g fm l log f table rules tied → Leaves (checked g fm (length work) rows) work work-after rows-after r
+abbrev pub WithFormula : List ℕ → LogReading → List ℕ → FormulaReading → List ℕ → List ℕ → List ℕ → List ℕ → Outcome → Type 0
+WithFormula l log f formula work work-after rows rows-after r =
+    (t : LogFile) (fm : Formula) → Accepted t fm l log f formula → Leaves (checked (logOf t) fm (length work) rows) work work-after rows-after r
 
 abbrev pub WithLog : List ℕ → List ℕ → LogReading → List ℕ → List ℕ → List ℕ → List ℕ → Outcome → Type 0
 WithLog l f log work work-after rows rows-after r =

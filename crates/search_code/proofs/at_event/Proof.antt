@@ -1,5 +1,6 @@
 -- `search_code::at_event` meets its contract: what the event alone says is told in its table, then it is the event.
 use denote.Ref.{now}
+use mathlib.Core.Path.{sym}
 use Rattle.threads.proofs.Marking.{wide-table, wide-steps}
 use Rattle.search_code.proofs.Turns.{turn-of}
 use borrow.Author.Needs.{needs}
@@ -7,10 +8,9 @@ use Rattle.search_code.proofs.at_event.Statement.{statement}
 use Rattle.search_code.proofs.at_event.Tie as tie
 
 slice-aggregate-mark-states : tie.Need-slice-aggregate-mark-states
-slice-aggregate-mark-states c = search needs
-
-slice-aggregate-mark-states-2 : tie.Need-slice-aggregate-mark-states-2
-slice-aggregate-mark-states-2 c = search needs
+slice-aggregate-mark-states c =
+    let c5 = c .before .before .before .before .before in
+    sym (c5 .pre .2)
 
 mark-states-requires : tie.Need-mark-states-requires
 mark-states-requires c κs = search needs
@@ -26,15 +26,16 @@ same-length c = search needs
 
 returns : tie.Need-returns
 returns c =
-    let c6 = c .before .before .before .before .before .before in
-    let c13 = c6 .before .before .before .before .before .before .before in
-    let a = c13 .args in
+    let c2 = c .before .before in
+    let c6 = c2 .before .before .before .before in
+    let c14 = c6 .before .before .before .before .before .before .before .before in
+    let a = c14 .args in
     let f = now (a .f) in
     let rises = a .rules .rises in
     let m = a .moment in
-    let x = c .before .before .one-event in (
+    let x = c2 .one-event in (
       λ steps w.
-          let e = wide-steps f steps rises m (a .t4) w _ (c6 .mark-states .ensures .1 (wide-table f steps rises m (a .t4) w)) in
+          let e = wide-steps f steps rises m (now (a .wide)) w _ (c6 .mark-states .ensures .1 (wide-table f steps rises m (now (a .wide)) w)) in
           turn-of f steps (a .rules) m (a .seats) (now (a .work)) (x .last .0) _ (x .result) e (x .ensures .0),
       x .ensures .1,
     )
@@ -44,7 +45,6 @@ at-event-spec =
     tie.close
     (tie.spec
     slice-aggregate-mark-states
-    slice-aggregate-mark-states-2
     mark-states-requires
     slice-aggregate-one-event
     one-event-requires

@@ -24,9 +24,10 @@ refused-requires-2 c κs = search needs
 
 returns-2 : tie.Need-returns-2
 returns-2 c =
-    let c6 = c .before .before .before .before .before .before in
+    let c2 = c .before .before in
+    let c6 = c2 .before .before .before .before in
     let a = c6 .args in (
-      too-short (now (a .l)) (now (a .f)) (a .log) (a .formula) (a .start) (now (a .work)) (c .refused2 .result) (c .before .before .if1 .left)
+      too-short (now (a .l)) (now (a .f)) (a .log) (a .formula) (a .start) (now (a .work)) (c .refused2 .result) (c2 .if1 .left)
           (c .before .if2 .taken) (c .refused2 .ensures),
       (refl, rw (c .refused2 .ensures) (omega arith)),
     )
@@ -34,27 +35,36 @@ returns-2 c =
 slots-of-requires : tie.Need-slots-of-requires
 slots-of-requires c κs = search needs
 
+scope-of-requires : tie.Need-scope-of-requires
+scope-of-requires c κs = search needs
+
 search-from-requires : tie.Need-search-from-requires
 search-from-requires c κs =
     let c3 = c .before .before .before in
-    let c8 = c3 .before .before .before .before .before in
-    let c13 = c8 .before .before .before .before .before in
-    let a = c13 in
-    let k = slots-fit (length (now (a .args .work))) (c8 .if2 .left) in
-    rw (c3 .slots-of .ensures) (k .0, k .1, a .pre)
+    let c4 = c3 .before in
+    let c7 = c4 .before .before .before in
+    let c12 = c7 .before .before .before .before .before in
+    let k = slots-fit (length (now (c12 .args .work))) (c7 .if2 .left) in
+    rw (c3 .scope-of .ensures, c4 .slots-of .ensures) (k .0, k .1, c12 .pre)
 
 same-length : tie.Need-same-length
 same-length c = search needs
 
 returns-3 : tie.Need-returns-3
 returns-3 c =
-    let a = c .before .before .before .before .before .before .before .before .before .before .before .before .before .before .before .before .args in
-    let n = c .before .before .before .before .before .before .slots-of in
-    let r = c .before .before .search-from in
-    let more = c .before .before .before .before .before .before .before .before .before .before .before .before .if1 .left in
-    let enough = c .before .before .before .before .before .before .before .before .before .before .before .if2 .left in (
-      searched (now (a .l)) (now (a .f)) (a .log) (a .formula) (a .start) (now (a .work)) (n .result) _ (r .result) more enough (n .ensures) (r .ensures .0),
-      (r .ensures .1 .1, rw (← n .ensures) (r .ensures .1 .0)),
+    let c2 = c .before .before in
+    let c6 = c2 .before .before .before .before in
+    let c7 = c6 .before in
+    let c10 = c7 .before .before .before in
+    let c11 = c10 .before in
+    let c15 = c11 .before .before .before .before in
+    let a = c15 .args in
+    let n = c7 .slots-of in
+    let s = c6 .scope-of in
+    let r = c2 .search-from in (
+      searched (now (a .l)) (now (a .f)) (a .log) (a .formula) (a .start) (now (a .work)) (n .result) _ (r .result) (c11 .if1 .left) (c10 .if2 .left)
+          (n .ensures) (rw (s .ensures) at (r .ensures .0)),
+      (r .ensures .1 .1, rw (← n .ensures) (rw (s .ensures) at (r .ensures .1 .0))),
     )
 
 pub checked-spec : {M : Type 1} → statement M
@@ -66,6 +76,7 @@ checked-spec =
     refused-requires-2
     returns-2
     slots-of-requires
+    scope-of-requires
     search-from-requires
     same-length
     returns-3)

@@ -18,18 +18,25 @@ use Rattle.formula.specs.Encode as FormulaEncode
 use Rattle.formula.specs.Read as FormulaRead
 use Rattle.search.specs.declared.SearchAnswer.{SearchAnswer}
 use Rattle.formula_code.specs.declared.Verdict.{Verdict as FormulaVerdict}
-use Rattle.formula_code.specs.declared.Verdict.the-variants.{Accepted, Refused}
+use Rattle.formula_code.specs.declared.Verdict.the-variants as FormulaVerdictIs
 use Rattle.formula_code.specs.declared.FormulaReading.{FormulaReading}
 use Rattle.search.specs.Search.{checked}
 use Rattle.search.specs.Call.{Untouched}
 use Rattle.formula_code.specs.Answer.{answerOf as formulaAnswer}
 
--- a call whose log and formula are accepted, from what their readers found: its answer, and the work words where it is refused
+-- two accepted files, and what their readers found
+pub record Accepted (t : LogFile) (fm : Formula) (l : List ℕ) (log : LogReading) (f : List ℕ) (formula : FormulaReading) : Type 0 where
+  pub log-correct : LogCorrect.Correct t
+  pub log-bytes : l ≡ LogEncode.encode t
+  pub log-read : log ≡ LogRead.answerOf (LogRead.accepted t)
+  pub formula-correct : FormulaCorrect.Correct (length (t .fields)) fm
+  pub formula-bytes : f ≡ FormulaEncode.encode fm
+  pub formula-read : formula ≡ formulaAnswer (FormulaRead.accepted fm)
+
+-- a call whose log and formula are accepted: its answer, and the work words where it is refused
 abbrev pub CheckedIs : List ℕ → LogReading → List ℕ → FormulaReading → ℕ → List ℕ → List ℕ → SearchAnswer → Type 0
 CheckedIs l log f formula start work after r =
-    (t : LogFile) (fm : Formula) → LogCorrect.Correct t → l ≡ LogEncode.encode t → log ≡ LogRead.answerOf (LogRead.accepted t)
-    → FormulaCorrect.Correct (length (t .fields)) fm → f ≡ FormulaEncode.encode fm → formula ≡ formulaAnswer (FormulaRead.accepted fm)
-    → (r ≡ checked (logOf t) fm start (length work)) × Untouched r work after
+    (t : LogFile) (fm : Formula) → Accepted t fm l log f formula → (r ≡ checked (logOf t) fm start (length work)) × Untouched r work after
 
 -- the refusal that a reader's verdict holds; where it holds none, any
 abbrev pub refusalOfLog : LogVerdict.Verdict → Refusal
@@ -37,5 +44,5 @@ refusalOfLog (LogVerdictIs.Refused r) = r
 refusalOfLog LogVerdictIs.Accepted = DeadStart
 
 abbrev pub refusalOfFormula : FormulaVerdict → Refusal
-refusalOfFormula (Refused r) = r
-refusalOfFormula Accepted = DeadStart
+refusalOfFormula (FormulaVerdictIs.Refused r) = r
+refusalOfFormula FormulaVerdictIs.Accepted = DeadStart

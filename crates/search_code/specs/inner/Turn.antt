@@ -9,8 +9,10 @@ use lib.Dec.{eqb}
 use Rattle.base.specs.Lists.{pad}
 use Rattle.event_log.specs.Log.{Log}
 use Rattle.event_log.specs.declared.Event.{Event}
+use Rattle.event_log.specs.declared.LogReading.{LogReading}
 use Rattle.event_log.specs.Event.{Leads}
 use Rattle.formula.specs.Formula.{Formula}
+use Rattle.formula_code.specs.declared.FormulaReading.{FormulaReading}
 use Rattle.runs.specs.Order.{events, numbers}
 use Rattle.runs.specs.inner.Search as Runs
 use Rattle.runs.specs.inner.Threads.{candidates, insertWithin}
@@ -29,6 +31,7 @@ use Rattle.search_code.specs.declared.Outcome.{Outcome}
 use Rattle.search_code.specs.declared.Outcome.the-variants.{Found, Crowded, Waiting}
 use Rattle.search_code.specs.declared.Turn.{Turn}
 use Rattle.search_code.specs.declared.Entries.{Entries}
+use Rattle.search_code.specs.declared.Scope.{Scope}
 use Rattle.search.specs.Search.{answerOf}
 
 -- event n, judged by its own values: it has one for each field
@@ -85,8 +88,20 @@ Fits slots Found = Unit {0}
 Fits slots Crowded = Unit {0}
 Fits slots (Waiting more) = more ≤ slots
 
--- the search's answer, where the table of places leads to a log's events and the bytes are those of a correct formula
-abbrev pub SearchedFrom : List ℕ → ℕ → ℕ → List ℕ → List ℕ → List ℕ → Rules → ℕ → ℕ → SearchAnswer → Type 0
-SearchedFrom l fields count places f table rules start slots r =
-    (g : Log) (fm : Formula) → Setting g fm f table rules → Leads l places g → fields ≡ length (g .fields) → count ≡ length (g .events) → start < count
-    → r ≡ answerOf g fm (Runs.search (machine g fm) slots start)
+-- what the readers of two accepted files say of a search with so many slots
+abbrev pub scopeOf : LogReading → FormulaReading → ℕ → Scope
+scopeOf log formula slots =
+    record { fields = log .fields; events = log .events; rules = record { kinds = formula .kinds; rises = log .rises }; slots = slots }
+
+-- a log and a formula, as the readers of two accepted files hand them on: the table of places leads to the log's events, and the bytes
+-- are those of the formula
+pub record Given (g : Log) (fm : Formula) (l places f table : List ℕ) (scope : Scope) : Type 0 where
+  pub setting : Setting g fm f table (scope .rules)
+  pub leads : Leads l places g
+  pub fields-are : scope .fields ≡ length (g .fields)
+  pub events-are : scope .events ≡ length (g .events)
+
+-- the search's answer
+abbrev pub SearchedFrom : List ℕ → List ℕ → List ℕ → List ℕ → Scope → ℕ → SearchAnswer → Type 0
+SearchedFrom l places f table scope start r =
+    (g : Log) (fm : Formula) → Given g fm l places f table scope → start < scope .events → r ≡ answerOf g fm (Runs.search (machine g fm) (scope .slots) start)
