@@ -1,6 +1,7 @@
 // The analysis: a row for every event of the log.
 use analysis::Outcome;
 use event_log::LogReading;
+use refusal::Acceptance;
 use refusal::Refusal;
 use search::SearchAnswer;
 use search::Verdict;
@@ -354,10 +355,10 @@ fn with_log(l: &[u8], f: &[u8], log: LogReading, work: &mut [u32], rows: &mut [u
     ensures { λ r. ⌜ WithLog (now (l .entry)) (now (f .entry)) log (now (work .entry)) (now (work .exit)) (now (rows .entry)) (now (rows .exit)) r ⌝ }
 {
     let formula = formula_code::read_formula(f, log.fields);
-    let verdict = formula.verdict;
+    let verdict = formula.acceptance;
     match verdict {
-        formula_code::Verdict::Refused(why) => Outcome::Refused(why),
-        formula_code::Verdict::Accepted => {
+        Acceptance::Refused(why) => Outcome::Refused(why),
+        Acceptance::Accepted => {
             let table = formula.table;
             let kinds = formula.kinds;
             let rises = log.rises;
@@ -373,9 +374,9 @@ pub fn analyse(l: &[u8], f: &[u8], work: &mut [u32], rows: &mut [u32]) -> Outcom
     ensures { λ r. ⌜ Analyses (now (l .entry)) (now (f .entry)) (now (work .entry)) (now (work .exit)) (now (rows .entry)) (now (rows .exit)) r ⌝ }
 {
     let log = event_log::read_log(l);
-    let verdict = log.verdict;
+    let verdict = log.acceptance;
     match verdict {
-        event_log::Verdict::Refused(why) => Outcome::Refused(why),
-        event_log::Verdict::Accepted => with_log(l, f, log, work, rows),
+        Acceptance::Refused(why) => Outcome::Refused(why),
+        Acceptance::Accepted => with_log(l, f, log, work, rows),
     }
 }
