@@ -10,11 +10,11 @@ use lib.Dec.{eqb}
 use Rattle.base.specs.Lists.{Bytes}
 use Rattle.refusal.specs.declared.Refusal.{Refusal}
 use Rattle.refusal.specs.declared.Refusal.the-variants.{Short}
+use Rattle.refusal.specs.declared.Acceptance.the-variants as FileIs
 use Rattle.event_log.specs.Log.{Log}
 use Rattle.event_log.specs.File.{LogFile, logOf}
 use Rattle.event_log.specs.Encode as LogEncode
 use Rattle.event_log.specs.Correct as LogCorrect
-use Rattle.event_log.specs.declared.Verdict.the-variants as LogVerdict
 use Rattle.event_log.specs.declared.LogReading.{LogReading}
 use Rattle.event_log.specs.Read as LogRead
 use Rattle.event_log.proofs.Accepted.{accepted-is-encoding}
@@ -29,7 +29,6 @@ use Rattle.machine.specs.Machine.{machine}
 use Rattle.search.specs.Search.{slotsOf}
 use Rattle.analysis.specs.declared.Outcome.{Outcome}
 use Rattle.analysis.specs.declared.Outcome.the-variants.{Refused}
-use Rattle.formula_code.specs.declared.Verdict.the-variants as FormulaVerdict
 use Rattle.formula_code.specs.declared.FormulaReading.{FormulaReading}
 use Rattle.formula_code.specs.Answer.{answerOf as formulaAnswer}
 use Rattle.formula_code.proofs.Answers.{FormulaTaken, formula-refused, formula-taken}
@@ -84,11 +83,11 @@ tie-at fm v h = bits-at 8 v (tiedMask fm) h ∙ rw (mask-bit fm v h) (bit-back (
 
 -- the formula is refused
 pub refused-formula : (g : Log) (f work rows : List ℕ) (r : FormulaReading) (why : Refusal) → r ≡ formulaAnswer (FormulaRead.readFormula (length (g .fields)) f)
-    → r .verdict ≡ FormulaVerdict.Refused why
+    → r .acceptance ≡ FileIs.Refused why
     → Leaves (withFormula g (FormulaRead.readFormula (length (g .fields)) f) (length work) rows) work work rows (Refused why)
 refused-formula g f work rows r why e h =
     let x = FormulaRead.readFormula (length (g .fields)) f in
-    let q : x ≡ FormulaRead.refused why = formula-refused x why (ap (λ (a : FormulaReading). a .verdict) (sym e) ∙ h) in
+    let q : x ≡ FormulaRead.refused why = formula-refused x why (ap (λ (a : FormulaReading). a .acceptance) (sym e) ∙ h) in
     rw q left-alone
 
 -- the reader's mask of tied variables, read back, ties as the formula does
@@ -102,9 +101,9 @@ mask-ties t fm l f log r tied a marks =
 -- the formula is accepted
 module _ (t : LogFile) (l f : List ℕ) (log : LogReading) (r : FormulaReading) (bytes : Bytes f) (read : log ≡ LogRead.answerOf (LogRead.accepted t))
     (here : l ≡ LogEncode.encode t) (ok : LogCorrect.Correct t)
-    (e : r ≡ formulaAnswer (FormulaRead.readFormula (length (t .fields)) f)) (h : r .verdict ≡ FormulaVerdict.Accepted) where
+    (e : r ≡ formulaAnswer (FormulaRead.readFormula (length (t .fields)) f)) (h : r .acceptance ≡ FileIs.Accepted) where
   taken : FormulaTaken (FormulaRead.readFormula (length (t .fields)) f)
-  taken = formula-taken (FormulaRead.readFormula (length (t .fields)) f) (ap (λ (a : FormulaReading). a .verdict) (sym e) ∙ h)
+  taken = formula-taken (FormulaRead.readFormula (length (t .fields)) f) (ap (λ (a : FormulaReading). a .acceptance) (sym e) ∙ h)
 
   both : Accepted t (taken .formula) l log f r
   both =
@@ -124,17 +123,17 @@ module _ (t : LogFile) (l f : List ℕ) (log : LogReading) (r : FormulaReading) 
   accepted-formula work work-after rows rows-after o go = rw (taken .is) (go (taken .formula) both)
 
 -- the log is refused
-pub refused-log : (l f work rows : List ℕ) (log : LogReading) (why : Refusal) → LogRead.ReadsLog l log → log .verdict ≡ LogVerdict.Refused why
+pub refused-log : (l f work rows : List ℕ) (log : LogReading) (why : Refusal) → LogRead.ReadsLog l log → log .acceptance ≡ FileIs.Refused why
     → Analyses l f work work rows rows (Refused why)
 unfolding analysis
 refused-log l f work rows log why e h =
-    let q : LogRead.readLog l ≡ LogRead.refused why = log-refused (LogRead.readLog l) why (ap (λ (a : LogReading). a .verdict) (sym e) ∙ h) in
+    let q : LogRead.readLog l ≡ LogRead.refused why = log-refused (LogRead.readLog l) why (ap (λ (a : LogReading). a .acceptance) (sym e) ∙ h) in
     rw q left-alone
 
 -- the log is accepted
-module _ (l f : List ℕ) (log : LogReading) (bytes : Bytes l) (e : LogRead.ReadsLog l log) (h : log .verdict ≡ LogVerdict.Accepted) where
+module _ (l f : List ℕ) (log : LogReading) (bytes : Bytes l) (e : LogRead.ReadsLog l log) (h : log .acceptance ≡ FileIs.Accepted) where
   read : LogTaken (LogRead.readLog l)
-  read = log-taken (LogRead.readLog l) (ap (λ (a : LogReading). a .verdict) (sym e) ∙ h)
+  read = log-taken (LogRead.readLog l) (ap (λ (a : LogReading). a .acceptance) (sym e) ∙ h)
 
   same : log ≡ LogRead.answerOf (LogRead.accepted (read .file))
   same = e ∙ ap LogRead.answerOf (read .is)

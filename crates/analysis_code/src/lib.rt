@@ -2,6 +2,7 @@
 use analysis::Outcome;
 use event_log::LogReading;
 use formula_code::FormulaReading;
+use refusal::Acceptance;
 use refusal::Refusal;
 use search::SearchAnswer;
 use search::Verdict;
@@ -315,10 +316,10 @@ fn with_log(l: &[u8], f: &[u8], log: LogReading, work: &mut [u32], rows: &mut [u
     ensures { λ r. ⌜ WithLog (now (l .entry)) (now (f .entry)) log (now (work .entry)) (now (work .exit)) (now (rows .entry)) (now (rows .exit)) r ⌝ }
 {
     let formula = formula_code::read_formula(f, log.fields);
-    let verdict = formula.verdict;
+    let verdict = formula.acceptance;
     match verdict {
-        formula_code::Verdict::Refused(why) => Outcome::Refused(why),
-        formula_code::Verdict::Accepted => with_formula(l, log, f, formula, work, rows),
+        Acceptance::Refused(why) => Outcome::Refused(why),
+        Acceptance::Accepted => with_formula(l, log, f, formula, work, rows),
     }
 }
 
@@ -327,9 +328,9 @@ pub fn analyse(l: &[u8], f: &[u8], work: &mut [u32], rows: &mut [u32]) -> Outcom
     ensures { λ r. ⌜ Analyses (now (l .entry)) (now (f .entry)) (now (work .entry)) (now (work .exit)) (now (rows .entry)) (now (rows .exit)) r ⌝ }
 {
     let log = event_log::read_log(l);
-    let verdict = log.verdict;
+    let verdict = log.acceptance;
     match verdict {
-        event_log::Verdict::Refused(why) => Outcome::Refused(why),
-        event_log::Verdict::Accepted => with_log(l, f, log, work, rows),
+        Acceptance::Refused(why) => Outcome::Refused(why),
+        Acceptance::Accepted => with_log(l, f, log, work, rows),
     }
 }

@@ -68,10 +68,10 @@ record Good (l f : List ℕ) (count : ℕ) : Type 0 where
 good : (l f : List ℕ) (a : LogReading) (b : FormulaReading) → Accepted l f a b → Good l f (a .events)
 unfolding LogRead.answerOf
 good l f a b x =
-    let t = log-taken (LogRead.readLog l) (ap (λ (y : LogReading). y .verdict) (sym (x .log)) ∙ x .log-accepted) in
+    let t = log-taken (LogRead.readLog l) (ap (λ (y : LogReading). y .acceptance) (sym (x .log)) ∙ x .log-accepted) in
     let q : a ≡ LogRead.answerOf (LogRead.accepted (t .file)) = x .log ∙ ap LogRead.answerOf (t .is) in
     let k = x .formula ∙ ap (λ n. formulaAnswer (FormulaRead.readFormula n f)) (ap (λ (y : LogReading). y .fields) q) in
-    let u = formula-taken (FormulaRead.readFormula (length (t .file .fields)) f) (ap (λ (y : FormulaReading). y .verdict) (sym k) ∙ x .formula-accepted) in
+    let u = formula-taken (FormulaRead.readFormula (length (t .file .fields)) f) (ap (λ (y : FormulaReading). y .acceptance) (sym k) ∙ x .formula-accepted) in
     record { file = t .file; formula = u .formula; log-read = t .is; formula-read = u .is; events = ap (λ (y : LogReading). y .events) q }
 
 read : {l f : List ℕ} (g : Log) (fm : Formula) → P.Accepted l f g fm → Good l f (length (g .events))
@@ -85,13 +85,13 @@ data Bad (l f : List ℕ) (why : Refusal) : Type 0 where
 
 bad : (l f : List ℕ) (why : Refusal) → FileRefused l f why → Bad l f why
 unfolding LogRead.answerOf
-bad l f why (by-log a e v) = bad-log (log-refused (LogRead.readLog l) why (ap (λ (y : LogReading). y .verdict) (sym e) ∙ v))
+bad l f why (by-log a e v) = bad-log (log-refused (LogRead.readLog l) why (ap (λ (y : LogReading). y .acceptance) (sym e) ∙ v))
 bad l f why (by-formula a b e v k w) =
-    let t = log-taken (LogRead.readLog l) (ap (λ (y : LogReading). y .verdict) (sym e) ∙ v) in
+    let t = log-taken (LogRead.readLog l) (ap (λ (y : LogReading). y .acceptance) (sym e) ∙ v) in
     let q : a ≡ LogRead.answerOf (LogRead.accepted (t .file)) = e ∙ ap LogRead.answerOf (t .is) in
     let r = k ∙ ap (λ n. formulaAnswer (FormulaRead.readFormula n f)) (ap (λ (y : LogReading). y .fields) q) in
     bad-formula (t .file) (t .is)
-    (formula-refused (FormulaRead.readFormula (length (t .file .fields)) f) why (ap (λ (y : FormulaReading). y .verdict) (sym r) ∙ w))
+    (formula-refused (FormulaRead.readFormula (length (t .file .fields)) f) why (ap (λ (y : FormulaReading). y .acceptance) (sym r) ∙ w))
 
 module _ (l f : List ℕ) (start words : ℕ) where
   bad-search : (why : Refusal) → Bad l f why → S.searchAnswer l f start words ≡ S.refusal why

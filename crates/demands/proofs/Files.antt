@@ -12,9 +12,9 @@ use lib.ListN.{length, getD, take, drop, take-append-drop}
 use lib.Seq.{length-take-le}
 use Rattle.base.specs.Lists.{Bytes}
 use Rattle.refusal.specs.declared.Refusal.{Refusal}
+use Rattle.refusal.specs.declared.Acceptance.the-variants as FileIs
 use Rattle.refusal.specs.Refusals.{reportOf}
 use Rattle.event_log.specs.declared.LogReading.{LogReading}
-use Rattle.event_log.specs.declared.Verdict.the-variants as LogIs
 use Rattle.event_log.specs.Log.{eventAt}
 use Rattle.event_log.specs.File.{event, LogFile, eventsOf, logOf}
 use Rattle.event_log.specs.Encode as LogEncode
@@ -30,12 +30,11 @@ use Rattle.formula.proofs.Basics.{all-left}
 use Rattle.formula.proofs.Reading as FormulaLaws
 use Rattle.formula.proofs.Refusals.{FormulaRefusal, formula-refusal}
 use Rattle.formula_code.specs.declared.FormulaReading.{FormulaReading}
-use Rattle.formula_code.specs.declared.Verdict.the-variants as FormulaIs
 use Rattle.formula_code.specs.Answer as FormulaAnswer
 use Rattle.formula_code.proofs.Answers.{formula-taken}
 use Rattle.runs.specs.inner.Lists.{has}
 use Rattle.runs.proofs.Lists.{has-in}
-use Rattle.demands.specs.Demands.{IsLog, IsFormula, Told, FirstOfLog, FirstOfFormula, SomeLog, SomeFormula, Recorded, SecondOfLog, SecondOfFormula}
+use Rattle.demands.specs.Demands.{IsLog, IsFormula, Told, FirstOfFile, FirstOfLog, FirstOfFormula, SomeLog, SomeFormula, Recorded, SecondOfLog, SecondOfFormula}
 
 -- FIRST DEMAND
 
@@ -43,14 +42,14 @@ tell : {file n : ℕ} {allowed : List ℕ} {why : Refusal} → reportOf why .fil
     → Told file allowed n why
 tell f i p = record { names-file = f; names-number = has-in eqb eqb-true (λ k. eq-eqb k k refl) _ _ i; names-place = omega arith }
 
-log-told : (l : List ℕ) (r : LogReading) (why : Refusal) → r .verdict ≡ LogIs.Refused why → LogRefusal (length l) why → FirstOfLog l r
+log-told : (l : List ℕ) (r : LogReading) (why : Refusal) → r .acceptance ≡ FileIs.Refused why → LogRefusal (length l) why → FirstOfLog l r
 unfolding has
-log-told l r why v (LogRefusal.cut-short h) = FirstOfLog.refused why v (tell refl refl h)
-log-told l r why v (LogRefusal.foreign h) = FirstOfLog.refused why v (tell refl refl h)
-log-told l r why v (LogRefusal.value h) = FirstOfLog.refused why v (tell refl refl h)
-log-told l r why v (LogRefusal.surplus h) = FirstOfLog.refused why v (tell refl refl h)
-log-told l r why v (LogRefusal.leftover h) = FirstOfLog.refused why v (tell refl refl h)
-log-told l r why v (LogRefusal.step-back h) = FirstOfLog.refused why v (tell refl refl h)
+log-told l r why v (LogRefusal.cut-short h) = FirstOfFile.refused why v (tell refl refl h)
+log-told l r why v (LogRefusal.foreign h) = FirstOfFile.refused why v (tell refl refl h)
+log-told l r why v (LogRefusal.value h) = FirstOfFile.refused why v (tell refl refl h)
+log-told l r why v (LogRefusal.surplus h) = FirstOfFile.refused why v (tell refl refl h)
+log-told l r why v (LogRefusal.leftover h) = FirstOfFile.refused why v (tell refl refl h)
+log-told l r why v (LogRefusal.step-back h) = FirstOfFile.refused why v (tell refl refl h)
 
 -- A log is accepted, or refused with file 1, a number from 1 to 6 and a place.
 pub log-first : (l : List ℕ) (r : LogReading) → LogRead.ReadsLog l r → FirstOfLog l r
@@ -58,18 +57,18 @@ unfolding LogRead.answerOf
 log-first l r reads = go (LogRead.readLog l) refl reads
   where
     go : (x : LogRead.Reading) → LogRead.readLog l ≡ x → r ≡ LogRead.answerOf x → FirstOfLog l r
-    go (LogRead.accepted t) q a = FirstOfLog.accepted (ap (λ (s : LogReading). s .verdict) a)
-    go (LogRead.refused why) q a = log-told l r why (ap (λ (s : LogReading). s .verdict) a) (log-refusal l why q)
+    go (LogRead.accepted t) q a = FirstOfFile.accepted (ap (λ (s : LogReading). s .acceptance) a)
+    go (LogRead.refused why) q a = log-told l r why (ap (λ (s : LogReading). s .acceptance) a) (log-refusal l why q)
 
-formula-told : (f : List ℕ) (r : FormulaReading) (why : Refusal) → r .verdict ≡ FormulaIs.Refused why → FormulaRefusal (length f) why → FirstOfFormula f r
+formula-told : (f : List ℕ) (r : FormulaReading) (why : Refusal) → r .acceptance ≡ FileIs.Refused why → FormulaRefusal (length f) why → FirstOfFormula f r
 unfolding has
-formula-told f r why v (FormulaRefusal.cut-short h) = FirstOfFormula.refused why v (tell refl refl h)
-formula-told f r why v (FormulaRefusal.foreign h) = FirstOfFormula.refused why v (tell refl refl h)
-formula-told f r why v (FormulaRefusal.value h) = FirstOfFormula.refused why v (tell refl refl h)
-formula-told f r why v (FormulaRefusal.surplus h) = FirstOfFormula.refused why v (tell refl refl h)
-formula-told f r why v (FormulaRefusal.leftover h) = FirstOfFormula.refused why v (tell refl refl h)
-formula-told f r why v FormulaRefusal.dead-start = FirstOfFormula.refused why v (tell refl refl (omega arith))
-formula-told f r why v (FormulaRefusal.unbound h) = FirstOfFormula.refused why v (tell refl refl h)
+formula-told f r why v (FormulaRefusal.cut-short h) = FirstOfFile.refused why v (tell refl refl h)
+formula-told f r why v (FormulaRefusal.foreign h) = FirstOfFile.refused why v (tell refl refl h)
+formula-told f r why v (FormulaRefusal.value h) = FirstOfFile.refused why v (tell refl refl h)
+formula-told f r why v (FormulaRefusal.surplus h) = FirstOfFile.refused why v (tell refl refl h)
+formula-told f r why v (FormulaRefusal.leftover h) = FirstOfFile.refused why v (tell refl refl h)
+formula-told f r why v FormulaRefusal.dead-start = FirstOfFile.refused why v (tell refl refl (omega arith))
+formula-told f r why v (FormulaRefusal.unbound h) = FirstOfFile.refused why v (tell refl refl h)
 
 -- A formula is accepted, or refused with file 2, a number from 1 to 5, 7 or 8, and a place.
 pub formula-first : (f : List ℕ) (fields : ℕ) (r : FormulaReading) → FormulaAnswer.ReadsFormula f fields r → FirstOfFormula f r
@@ -77,16 +76,16 @@ unfolding FormulaAnswer.answerOf
 formula-first f fields r reads = go (FormulaRead.readFormula fields f) refl reads
   where
     go : (x : FormulaRead.Reading) → FormulaRead.readFormula fields f ≡ x → r ≡ FormulaAnswer.answerOf x → FirstOfFormula f r
-    go (FormulaRead.accepted g) q a = FirstOfFormula.accepted (ap (λ (s : FormulaReading). s .verdict) a)
-    go (FormulaRead.refused why) q a = formula-told f r why (ap (λ (s : FormulaReading). s .verdict) a) (formula-refusal fields f why q)
+    go (FormulaRead.accepted g) q a = FirstOfFile.accepted (ap (λ (s : FormulaReading). s .acceptance) a)
+    go (FormulaRead.refused why) q a = formula-told f r why (ap (λ (s : FormulaReading). s .acceptance) a) (formula-refusal fields f why q)
 
 -- SECOND DEMAND
 
 module _ (l : List ℕ) (r : LogReading) (reads : LogRead.ReadsLog l r) where
   -- an accepted log is the encoding of a correct one
-  accepted-log : Bytes l → r .verdict ≡ LogIs.Accepted → SomeLog l
+  accepted-log : Bytes l → r .acceptance ≡ FileIs.Accepted → SomeLog l
   accepted-log bytes v =
-      let t = log-taken (LogRead.readLog l) (ap (λ (x : LogReading). x .verdict) (sym reads) ∙ v) in
+      let t = log-taken (LogRead.readLog l) (ap (λ (x : LogReading). x .acceptance) (sym reads) ∙ v) in
       let k = LogLaws.accepted-is-encoding l (t .file) bytes (t .is) in
       record { file = t .file; is = record { correct = k .1; encoded = k .0 } }
 
@@ -119,7 +118,7 @@ unfolding LogRead.answerOf
 log-second l r bytes reads =
     let answer : (t : LogFile) → IsLog l t → r ≡ LogRead.answerOf (LogRead.accepted t) = log-answer l r reads in
     record {
-      accepts = (accepted-log l r reads bytes, λ s. ap (λ (x : LogReading). x .verdict) (answer (s .file) (s .is)));
+      accepts = (accepted-log l r reads bytes, λ s. ap (λ (x : LogReading). x .acceptance) (answer (s .file) (s .is)));
       one = λ t u i j. LogLaws.encode-once t u (i .correct) (j .correct) (sym (i .encoded) ∙ j .encoded);
       fields = λ t i. ap (λ (x : LogReading). x .fields) (answer t i);
       rising = λ t i. ap (λ (x : LogReading). x .rises) (answer t i);
@@ -130,9 +129,9 @@ log-second l r bytes reads =
 
 module _ (f : List ℕ) (fields : ℕ) (r : FormulaReading) (reads : FormulaAnswer.ReadsFormula f fields r) where
   -- an accepted formula is the encoding of a correct one
-  accepted-formula : Bytes f → r .verdict ≡ FormulaIs.Accepted → SomeFormula fields f
+  accepted-formula : Bytes f → r .acceptance ≡ FileIs.Accepted → SomeFormula fields f
   accepted-formula bytes v =
-      let t = formula-taken (FormulaRead.readFormula fields f) (ap (λ (x : FormulaReading). x .verdict) (sym reads) ∙ v) in
+      let t = formula-taken (FormulaRead.readFormula fields f) (ap (λ (x : FormulaReading). x .acceptance) (sym reads) ∙ v) in
       let k = FormulaLaws.accepted-correct fields f (t .formula) bytes (t .is) in
       record { formula = t .formula; is = record { correct = k .1; encoded = k .0 } }
 
@@ -147,7 +146,7 @@ unfolding FormulaAnswer.answerOf
 formula-second f fields r bytes reads =
     let answer : (g : Formula) → IsFormula fields f g → r ≡ FormulaAnswer.answerOf (FormulaRead.accepted g) = formula-answer f fields r reads in
     record {
-      accepts = (accepted-formula f fields r reads bytes, λ s. ap (λ (x : FormulaReading). x .verdict) (answer (s .formula) (s .is)));
+      accepts = (accepted-formula f fields r reads bytes, λ s. ap (λ (x : FormulaReading). x .acceptance) (answer (s .formula) (s .is)));
       one = λ g h i j. FormulaLaws.encode-injective fields g h (i .correct) (j .correct) (sym (i .encoded) ∙ j .encoded);
       states = λ g i. ap (λ (x : FormulaReading). x .states) (answer g i);
       state-kinds = λ g i. ap (λ (x : FormulaReading). x .kinds) (answer g i);

@@ -9,9 +9,10 @@ use lib.ListN.{length, getD, drop, replicate}
 use Rattle.base.specs.Lists.{All, pad}
 use Rattle.refusal.specs.declared.Refusal.{Refusal}
 use Rattle.refusal.specs.declared.Refusal.the-variants.{Outside, Short, Crowded}
+use Rattle.refusal.specs.declared.Acceptance.{Acceptance}
+use Rattle.refusal.specs.declared.Acceptance.the-variants as FileIs
 use Rattle.refusal.specs.Refusals.{reportOf, NotCrowded}
 use Rattle.event_log.specs.declared.LogReading.{LogReading}
-use Rattle.event_log.specs.declared.Verdict.the-variants as LogIs
 use Rattle.event_log.specs.Log.{Event, Log, eventAt}
 use Rattle.event_log.specs.File.{Entry, event, LogFile, eventsOf, logOf}
 use Rattle.event_log.specs.Correct as LogCorrect
@@ -23,7 +24,6 @@ use Rattle.formula.specs.Correct as FormulaCorrect
 use Rattle.formula.specs.Encode as FormulaEncode
 use Rattle.formula.specs.Lookup.{stepTable, tiedMask}
 use Rattle.formula_code.specs.declared.FormulaReading.{FormulaReading}
-use Rattle.formula_code.specs.declared.Verdict.the-variants as FormulaIs
 use Rattle.formula_code.specs.Answer.{kindsOf, ReadsFormula}
 use Rattle.runs.specs.Lists.{In}
 use Rattle.runs.specs.Run.{Trail, last, Run}
@@ -64,28 +64,31 @@ pub record Told (file : ℕ) (allowed : List ℕ) (size : ℕ) (why : Refusal) :
   pub names-number : In (reportOf why .number) allowed
   pub names-place : reportOf why .place ≤ size
 
--- a log is accepted, or refused with file 1, a number from 1 to 6 and a place
-pub data FirstOfLog (l : List ℕ) (r : LogReading) : Type 0 where
-  accepted : r .verdict ≡ LogIs.Accepted → FirstOfLog l r
-  refused : (why : Refusal) → r .verdict ≡ LogIs.Refused why → Told 1 (1 ∷ 2 ∷ 3 ∷ 4 ∷ 5 ∷ 6 ∷ []) (length l) why → FirstOfLog l r
+-- a file with so many bytes is accepted, or refused with file, one of the numbers allowed, and place
+pub data FirstOfFile (file : ℕ) (allowed : List ℕ) (size : ℕ) (a : Acceptance) : Type 0 where
+  accepted : a ≡ FileIs.Accepted → FirstOfFile file allowed size a
+  refused : (why : Refusal) → a ≡ FileIs.Refused why → Told file allowed size why → FirstOfFile file allowed size a
 
--- a formula is accepted, or refused with file 2, a number from 1 to 5, 7 or 8, and a place
-pub data FirstOfFormula (f : List ℕ) (r : FormulaReading) : Type 0 where
-  accepted : r .verdict ≡ FormulaIs.Accepted → FirstOfFormula f r
-  refused : (why : Refusal) → r .verdict ≡ FormulaIs.Refused why → Told 2 (1 ∷ 2 ∷ 3 ∷ 4 ∷ 5 ∷ 7 ∷ 8 ∷ []) (length f) why → FirstOfFormula f r
+-- a log: file 1, a number from 1 to 6
+abbrev pub FirstOfLog : List ℕ → LogReading → Type 0
+FirstOfLog l r = FirstOfFile 1 (1 ∷ 2 ∷ 3 ∷ 4 ∷ 5 ∷ 6 ∷ []) (length l) (r .acceptance)
+
+-- a formula: file 2, a number from 1 to 5, 7 or 8
+abbrev pub FirstOfFormula : List ℕ → FormulaReading → Type 0
+FirstOfFormula f r = FirstOfFile 2 (1 ∷ 2 ∷ 3 ∷ 4 ∷ 5 ∷ 7 ∷ 8 ∷ []) (length f) (r .acceptance)
 
 -- both readers accept; a and b are their answers
 pub record Accepted (l f : List ℕ) (a : LogReading) (b : FormulaReading) : Type 0 where
   pub log : ReadsLog l a
-  pub log-accepted : a .verdict ≡ LogIs.Accepted
+  pub log-accepted : a .acceptance ≡ FileIs.Accepted
   pub formula : ReadsFormula f (a .fields) b
-  pub formula-accepted : b .verdict ≡ FormulaIs.Accepted
+  pub formula-accepted : b .acceptance ≡ FileIs.Accepted
 
 -- what a call's two readers refuse it with: "A call checks the log, the formula, .."
 pub data FileRefused (l f : List ℕ) (why : Refusal) : Type 0 where
-  by-log : (a : LogReading) → ReadsLog l a → a .verdict ≡ LogIs.Refused why → FileRefused l f why
-  by-formula : (a : LogReading) (b : FormulaReading) → ReadsLog l a → a .verdict ≡ LogIs.Accepted → ReadsFormula f (a .fields) b
-      → b .verdict ≡ FormulaIs.Refused why → FileRefused l f why
+  by-log : (a : LogReading) → ReadsLog l a → a .acceptance ≡ FileIs.Refused why → FileRefused l f why
+  by-formula : (a : LogReading) (b : FormulaReading) → ReadsLog l a → a .acceptance ≡ FileIs.Accepted → ReadsFormula f (a .fields) b
+      → b .acceptance ≡ FileIs.Refused why → FileRefused l f why
 
 -- a search: "A call checks the log, the formula, 9 (search only), 10 for work words, .., then runs"
 pub record FirstOfSearch (l f : List ℕ) (start : ℕ) (work after : List ℕ) (r : SearchAnswer) : Type 0 where
@@ -133,7 +136,7 @@ pub record Recorded (l : List ℕ) (t : LogFile) (n : ℕ) : Type 0 where
       ++ (flatMap LogEncode.encodeEntry before ++ (LogEncode.encodeEntry (event ((eventAt (logOf t) n) .values)) ++ behind))
 
 pub record SecondOfLog (l : List ℕ) (r : LogReading) : Type 0 where
-  pub accepts : (r .verdict ≡ LogIs.Accepted) ↔ SomeLog l
+  pub accepts : (r .acceptance ≡ FileIs.Accepted) ↔ SomeLog l
   pub one : (t u : LogFile) → IsLog l t → IsLog l u → t ≡ u
   pub fields : (t : LogFile) → IsLog l t → r .fields ≡ length (t .fields)
   pub rising : (t : LogFile) → IsLog l t → r .rises ≡ pad 8 false (map rises (t .fields))
@@ -144,7 +147,7 @@ pub record SecondOfLog (l : List ℕ) (r : LogReading) : Type 0 where
   pub recorded : (t : LogFile) → IsLog l t → (n : ℕ) → n < length ((logOf t) .events) → Recorded l t n
 
 pub record SecondOfFormula (f : List ℕ) (fields : ℕ) (r : FormulaReading) : Type 0 where
-  pub accepts : (r .verdict ≡ FormulaIs.Accepted) ↔ SomeFormula fields f
+  pub accepts : (r .acceptance ≡ FileIs.Accepted) ↔ SomeFormula fields f
   pub one : (g h : Formula) → IsFormula fields f g → IsFormula fields f h → g ≡ h
   pub states : (fm : Formula) → IsFormula fields f fm → r .states ≡ length (fm .states)
   pub state-kinds : (fm : Formula) → IsFormula fields f fm → r .kinds ≡ kindsOf (fm .states)

@@ -5,14 +5,12 @@ use mathlib.Core.List.{List}
 use lib.ListN.{length}
 use Rattle.refusal.specs.Refusals.{reportOf}
 use Rattle.refusal.specs.declared.Refusal.{Refusal}
+use Rattle.refusal.specs.declared.Acceptance.{Acceptance}
+use Rattle.refusal.specs.declared.Acceptance.the-variants as FileIs
 use Rattle.refusal.specs.declared.Report.{Report}
-use Rattle.event_log.specs.declared.Verdict as LogVerdict
-use Rattle.event_log.specs.declared.Verdict.the-variants as LogIs
 use Rattle.event_log.specs.declared.LogReading.{LogReading}
 use Rattle.event_log.specs.Read.{readLog, answerOf as logAnswer}
 use Rattle.formula.specs.Read.{readFormula}
-use Rattle.formula_code.specs.declared.Verdict as FormulaVerdict
-use Rattle.formula_code.specs.declared.Verdict.the-variants as FormulaIs
 use Rattle.formula_code.specs.declared.FormulaReading.{FormulaReading}
 use Rattle.formula_code.specs.Answer.{answerOf as formulaAnswer}
 use Rattle.search.specs.declared.Verdict as SearchVerdict
@@ -38,13 +36,9 @@ abbrev pub nothing : Refused
 nothing = record { file = 0; number = 0; place = 0 }
 
 -- the refusal in each answer
-abbrev pub logRefusal : LogVerdict.Verdict → Refused
-logRefusal LogIs.Accepted = nothing
-logRefusal (LogIs.Refused r) = named r
-
-abbrev pub formulaRefusal : FormulaVerdict.Verdict → Refused
-formulaRefusal FormulaIs.Accepted = nothing
-formulaRefusal (FormulaIs.Refused r) = named r
+abbrev pub fileRefusal : Acceptance → Refused
+fileRefusal FileIs.Accepted = nothing
+fileRefusal (FileIs.Refused r) = named r
 
 abbrev pub searchRefusal : SearchVerdict.Verdict → Refused
 searchRefusal (SearchIs.Refused r) = named r
@@ -65,11 +59,11 @@ verdictNumber SearchIs.Reject = 2
 
 -- a log's reading: the refusal, or the numbers of fields and events
 abbrev pub exportedLog : LogReading → LogRead
-exportedLog r = record { refused = logRefusal (r .verdict); fields = r .fields; events = r .events }
+exportedLog r = record { refused = fileRefusal (r .acceptance); fields = r .fields; events = r .events }
 
 -- a formula's reading: the refusal alone
 abbrev pub exportedFormula : FormulaReading → Refused
-exportedFormula r = formulaRefusal (r .verdict)
+exportedFormula r = fileRefusal (r .acceptance)
 
 -- a search's answer: the refusal and the verdict as numbers, all else as it is
 abbrev pub exportedSearch : SearchAnswer → Found

@@ -1,8 +1,9 @@
 // The static library: the readers, the search and the analysis for C and Rust. Each function hands on what the crate below answers, as a
 // struct of numbers. A slice passes as a pointer and a length.
+use refusal::Acceptance;
 use refusal::Refusal;
 ghost use mathlib.Core.Path.{_≡_};
-ghost use Rattle.exports.specs.Exports.{named, nothing, logRefusal, formulaRefusal, searchRefusal, verdictNumber, outcomeRefusal};
+ghost use Rattle.exports.specs.Exports.{named, nothing, fileRefusal, searchRefusal, verdictNumber, outcomeRefusal};
 ghost use Rattle.exports.specs.Exports.{ExportsLog, ExportsFormula, ExportsSearch, ExportsAnalysis};
 
 // A refusal's file, number and place; number 0 where nothing is refused.
@@ -57,23 +58,13 @@ fn none() -> Refused
     }
 }
 
-// The refusal in a log reader's verdict.
-fn log_refusal(v: event_log::Verdict) -> Refused
-    ensures { λ t. ⌜ t ≡ logRefusal v ⌝ }
+// The refusal of a file, if it has one.
+fn file_refusal(a: Acceptance) -> Refused
+    ensures { λ t. ⌜ t ≡ fileRefusal a ⌝ }
 {
-    match v {
-        event_log::Verdict::Accepted => none(),
-        event_log::Verdict::Refused(r) => three_of(r),
-    }
-}
-
-// The refusal in a formula reader's verdict.
-fn formula_refusal(v: formula_code::Verdict) -> Refused
-    ensures { λ t. ⌜ t ≡ formulaRefusal v ⌝ }
-{
-    match v {
-        formula_code::Verdict::Accepted => none(),
-        formula_code::Verdict::Refused(r) => three_of(r),
+    match a {
+        Acceptance::Accepted => none(),
+        Acceptance::Refused(r) => three_of(r),
     }
 }
 
@@ -117,9 +108,9 @@ pub extern "C" fn hikwallu_read_log(l: &[u8]) -> LogRead
     ensures { λ r. ⌜ ExportsLog (now (l .entry)) r ⌝ }
 {
     let reading = event_log::read_log(l);
-    let verdict = reading.verdict;
+    let acceptance = reading.acceptance;
     LogRead {
-        refused: log_refusal(verdict),
+        refused: file_refusal(acceptance),
         fields: reading.fields,
         events: reading.events,
     }
@@ -131,8 +122,8 @@ pub extern "C" fn hikwallu_read_formula(f: &[u8], fields: usize) -> Refused
     ensures { λ r. ⌜ ExportsFormula (now (f .entry)) fields r ⌝ }
 {
     let reading = formula_code::read_formula(f, fields);
-    let verdict = reading.verdict;
-    formula_refusal(verdict)
+    let acceptance = reading.acceptance;
+    file_refusal(acceptance)
 }
 
 // Searches one start with the lent work words, which stay as they are where the call is refused before it runs.

@@ -1,7 +1,7 @@
 // Runs the formula reader on the bench's formulas F and G, cut at every byte and with every byte set to 0, 1, 2, 17 and 255, against
 // a log of two fields, and prints each answer: the file, number and place of a refusal, or an accepted formula's number of states.
-use formula_code::Verdict;
 use libc::STDOUT_FILENO;
+use refusal::Acceptance;
 
 // A space and a number.
 fn put(n: usize) {
@@ -12,13 +12,13 @@ fn put(n: usize) {
 // What the reader answers, on one line.
 fn show(f: &[u8]) {
     let r = formula_code::read_formula(f, 2);
-    let verdict = r.verdict;
-    match verdict {
-        Verdict::Accepted => {
+    let acceptance = r.acceptance;
+    match acceptance {
+        Acceptance::Accepted => {
             io::write_all(STDOUT_FILENO, b"accepted");
             put(r.states);
         }
-        Verdict::Refused(why) => {
+        Acceptance::Refused(why) => {
             let t = refusal::report_of(why);
             io::write_all(STDOUT_FILENO, b"refused");
             put(t.file);

@@ -16,10 +16,11 @@ use Rattle.base.specs.Mask.{mask}
 use Rattle.refusal.specs.declared.File.the-variants.{Formula as InFormula}
 use Rattle.refusal.specs.declared.Refusal.{Refusal}
 use Rattle.refusal.specs.declared.Refusal.the-variants.{Value, Leftover, DeadStart, Unbound as UnboundAt}
+use Rattle.refusal.specs.declared.Acceptance.{Acceptance}
+use Rattle.refusal.specs.declared.Acceptance.the-variants.{Accepted, Refused}
+use Rattle.refusal.specs.inner.Acceptance.{refusalOf}
 use Rattle.formula_code.specs.declared.Draft.{Draft}
 use Rattle.formula_code.specs.declared.Scan.{Scan}
-use Rattle.formula_code.specs.declared.Verdict.{Verdict}
-use Rattle.formula_code.specs.declared.Verdict.the-variants.{Accepted, Refused}
 use Rattle.formula.specs.Formula.{TEST, TESTV, BIND, State, Formula}
 use Rattle.formula.specs.Encode.{Command, TIED, STATE, STEP, CLAUSE, GUARD, encodeCommand, commands}
 use Rattle.formula.specs.Unbound.{edgesFrom, isUnbound}
@@ -41,13 +42,9 @@ use Rattle.expression_reader.proofs.NotedPlaces.{num, Below}
 use Rattle.formula_code.proofs.FirstBad.{placesFrom, absent-place, unbound-place, absent-below, unbound-below}
 use Rattle.formula_code.proofs.Edges.{kept, Rep, steps-kept, reach-is}
 
-abbrev Taken? : Verdict → Type 0
+abbrev Taken? : Acceptance → Type 0
 Taken? Accepted = Unit {0}
 Taken? (Refused r) = ⊥
-
-abbrev refusalOf : Verdict → Refusal → Refusal
-refusalOf Accepted r = r
-refusalOf (Refused q) r = q
 
 module _ (fields : ℕ) (l : List ℕ) (bytes : Bytes l) where
   -- the whole file
@@ -55,16 +52,16 @@ module _ (fields : ℕ) (l : List ℕ) (bytes : Bytes l) where
   read-outcome = outcome fields l (suc (length l)) start [] 0 l bytes (reached-start fields l)
 
   -- a walk that is refused, and the definition refuses the file so
-  pub refused-so : (r : Refusal) → scanFile fields l .verdict ≡ Refused r → readFormula fields l ≡ refused r
+  pub refused-so : (r : Refusal) → scanFile fields l .acceptance ≡ Refused r → readFormula fields l ≡ refused r
   unfolding readFormula scanFile draftAfter
   refused-so r e =
       ⊎-elim
-      (λ (w : Whole fields l (suc (length l)) start [] 0 l). absurd (subst Taken? (sym (ap (λ (x : Scan). x .verdict) (w .scans)) ∙ e) tt))
-      (λ (b : Broken fields l (suc (length l)) start [] 0 l). b .reads ∙ ap refused (ap (λ v. refusalOf v r) (sym (b .scans) ∙ e)))
+      (λ (w : Whole fields l (suc (length l)) start [] 0 l). absurd (subst Taken? (sym (ap (λ (x : Scan). x .acceptance) (w .scans)) ∙ e) tt))
+      (λ (b : Broken fields l (suc (length l)) start [] 0 l). b .reads ∙ ap refused (ap refusalOf (sym (b .scans) ∙ e)))
       read-outcome
 
   -- a walk that reaches END
-  pub whole-of : scanFile fields l .verdict ≡ Accepted → Whole fields l (suc (length l)) start [] 0 l
+  pub whole-of : scanFile fields l .acceptance ≡ Accepted → Whole fields l (suc (length l)) start [] 0 l
   unfolding scanFile draftAfter
   whole-of e =
       ⊎-elim
@@ -228,13 +225,13 @@ module _ (fields : ℕ) (l : List ℕ) (w : Whole fields l (suc (length l)) star
 
 module _ (fields : ℕ) (l : List ℕ) (bytes : Bytes l) where
   -- a refused walk
-  pub answer-refused : (scan : Scan) (r : Refusal) → Scanned fields l scan → scan .verdict ≡ Refused r → answerOf (refused r) ≡ answerOf (readFormula fields l)
-  answer-refused scan r h e = sym (ap answerOf (refused-so fields l bytes r (ap (λ (x : Scan). x .verdict) (sym (h .is)) ∙ e)))
+  pub answer-refused : (scan : Scan) (r : Refusal) → Scanned fields l scan → scan .acceptance ≡ Refused r → answerOf (refused r) ≡ answerOf (readFormula fields l)
+  answer-refused scan r h e = sym (ap answerOf (refused-so fields l bytes r (ap (λ (x : Scan). x .acceptance) (sym (h .is)) ∙ e)))
 
   -- the draft of a walk that reached END
-  module _ (scan : Scan) (h : Scanned fields l scan) (e : scan .verdict ≡ Accepted) where
+  module _ (scan : Scan) (h : Scanned fields l scan) (e : scan .acceptance ≡ Accepted) where
     found-whole : Whole fields l (suc (length l)) start [] 0 l
-    found-whole = whole-of fields l bytes (ap (λ (x : Scan). x .verdict) (sym (h .is)) ∙ e)
+    found-whole = whole-of fields l bytes (ap (λ (x : Scan). x .acceptance) (sym (h .is)) ∙ e)
 
     walked : scan .draft ≡ draftAfter emptyDraft (found-whole .es)
     unfolding scanFile draftAfter

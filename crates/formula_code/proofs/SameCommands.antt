@@ -13,9 +13,9 @@ use Rattle.base.specs.Lists.{Bytes}
 use Rattle.refusal.specs.declared.File.the-variants.{Formula as InFormula}
 use Rattle.refusal.specs.declared.Refusal.{Refusal}
 use Rattle.refusal.specs.declared.Refusal.the-variants.{CutShort}
+use Rattle.refusal.specs.declared.Acceptance.the-variants.{Refused}
 use Rattle.formula_code.specs.declared.Draft.{Draft}
 use Rattle.formula_code.specs.declared.Scan.{Scan}
-use Rattle.formula_code.specs.declared.Verdict.the-variants.{Refused}
 use Rattle.formula.specs.Formula.{TEST, TESTV, BIND, StateKind, ordinary, committed, accept, reject}
 use Rattle.formula.specs.Encode.{Command, TIED, STATE, STEP, CLAUSE, GUARD, kindByte, encodeCommand}
 use Rattle.formula.specs.Correct.{isFinal}
@@ -95,7 +95,7 @@ pub record Whole (fields : ℕ) (l : List ℕ) (fuel : ℕ) (s : Summary) (cs : 
 pub record Broken (fields : ℕ) (l : List ℕ) (fuel : ℕ) (s : Summary) (cs : List Command) (at : ℕ) (rest : List ℕ) : Type 0 where
   pub refusal : Refusal
   pub reads : readFrom fuel fields s cs at rest ≡ refused refusal
-  pub scans : scanFrom fuel fields l (draftAfter emptyDraft cs) .verdict ≡ Refused refusal
+  pub scans : scanFrom fuel fields l (draftAfter emptyDraft cs) .acceptance ≡ Refused refusal
 
 abbrev pub Outcome : ℕ → List ℕ → ℕ → Summary → List Command → ℕ → List ℕ → Type 0
 Outcome fields l fuel s cs at rest = Whole fields l fuel s cs at rest ⊎ Broken fields l fuel s cs at rest
@@ -143,7 +143,7 @@ module _ (fields : ℕ) (l : List ℕ) where
       (record {
         refusal = b .refusal;
         reads = ap (follow (readFrom n fields) s cs at rest) e ∙ b .reads;
-        scans = ap (λ (x : Scan). x .verdict) (scan-on n s cs at rest c u r e h) ∙ b .scans;
+        scans = ap (λ (x : Scan). x .acceptance) (scan-on n s cs at rest c u r e h) ∙ b .scans;
       }))
 
   by-next : (n : ℕ) (s : Summary) (cs : List Command) (at : ℕ) (rest : List ℕ) → Reached fields l s cs at rest → (x : Next)
@@ -169,7 +169,7 @@ module _ (fields : ℕ) (l : List ℕ) where
       (record {
         refusal = q;
         reads = ap (follow (readFrom n fields) s cs at rest) e;
-        scans = ap (λ (x : Scan). x .verdict) (scan-by n s cs at rest (bad q) r e);
+        scans = ap (λ (x : Scan). x .acceptance) (scan-by n s cs at rest (bad q) r e);
       })
 
   place-same : (s : Summary) (cs : List Command) (at : ℕ) (rest : List ℕ) → Reached fields l s cs at rest → draftAfter emptyDraft cs .at ≡ at

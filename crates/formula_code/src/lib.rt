@@ -17,25 +17,21 @@ use command_reader::next_command;
 use expression_reader::places::NOWHERE;
 use expression_reader::places::lowest_of;
 use formula::Summary;
+use refusal::Acceptance;
 use refusal::File;
 use refusal::Refusal;
+use refusal::refusal_of;
 ghost use mathlib.Core.Path.{_≡_};
 ghost use mathlib.Core.List.{List};
 ghost use lib.ListN.{length};
 ghost use Rattle.formula.specs.Read.{refused};
 ghost use Rattle.formula_code.specs.Answer.{answerOf, ReadsFormula};
-ghost use Rattle.formula_code.specs.inner.Judge.{acceptedWith, judgedWith, refusalIn};
+ghost use Rattle.formula_code.specs.inner.Judge.{acceptedWith, judgedWith};
 ghost use Rattle.formula_code.specs.inner.Scan.{emptyDraft, stopped, finishedWith, Scanned};
 
-// Whether a formula is accepted.
-pub enum Verdict {
-    Accepted,
-    Refused(Refusal),
-}
-
-// The verdict, and of an accepted formula its number of states, their kinds (0 ordinary, 1 committed, 2 accept, 3 reject), where its steps begin (step k of state s at s * 8 + k, 0 where there is none) and the mask of its tied variables (bit v set where variable v is tied).
+// Whether a formula is accepted, and of an accepted one its number of states, their kinds (0 ordinary, 1 committed, 2 accept, 3 reject), where its steps begin (step k of state s at s * 8 + k, 0 where there is none) and the mask of its tied variables (bit v set where variable v is tied).
 pub struct FormulaReading {
-    pub verdict: Verdict,
+    pub acceptance: Acceptance,
     pub states: usize,
     pub kinds: [u32; 16],
     pub table: [usize; 128],
@@ -63,7 +59,7 @@ struct Draft {
 
 // How the commands of a file end, and what was kept of them.
 struct Scan {
-    verdict: Verdict,
+    acceptance: Acceptance,
     draft: Draft,
 }
 
@@ -98,7 +94,7 @@ fn stopped_by(r: Refusal) -> Scan
     ensures { λ s. ⌜ s ≡ stopped r ⌝ }
 {
     Scan {
-        verdict: Verdict::Refused(r),
+        acceptance: Acceptance::Refused(r),
         draft: empty_draft(),
     }
 }
@@ -116,7 +112,7 @@ fn finish(d: Draft, n: Next) -> Scan
             place: 0,
         }),
         Next::End => Scan {
-            verdict: Verdict::Accepted,
+            acceptance: Acceptance::Accepted,
             draft: d,
         },
         Next::Bad(r) => stopped_by(r),
@@ -157,24 +153,11 @@ fn refused_with(r: Refusal) -> FormulaReading
     ensures { λ a. ⌜ a ≡ answerOf (refused r) ⌝ }
 {
     FormulaReading {
-        verdict: Verdict::Refused(r),
+        acceptance: Acceptance::Refused(r),
         states: 0,
         kinds: [0u32; 16],
         table: [0usize; 128],
         tied: 0,
-    }
-}
-
-// The refusal in a verdict.
-fn refusal_in(v: Verdict) -> Refusal
-    ensures { λ r. ⌜ r ≡ refusalIn v ⌝ }
-{
-    match v {
-        Verdict::Refused(r) => r,
-        Verdict::Accepted => Refusal::CutShort {
-            file: File::Formula,
-            place: 0,
-        },
     }
 }
 
@@ -187,7 +170,7 @@ fn accepted_with(d: Draft) -> FormulaReading
     let table = d.table;
     let ties = d.ties;
     FormulaReading {
-        verdict: Verdict::Accepted,
+        acceptance: Acceptance::Accepted,
         states: s.states,
         kinds,
         table,
@@ -219,9 +202,9 @@ pub fn read_formula(l: &[u8], fields: usize) -> FormulaReading
     ensures { λ a. ⌜ ReadsFormula (now (l .entry)) fields a ⌝ }
 {
     let scan = scan_file(l, fields);
-    let verdict = scan.verdict;
-    let Verdict::Accepted = verdict else {
-        return refused_with(refusal_in(verdict));
+    let acceptance = scan.acceptance;
+    let Acceptance::Accepted = acceptance else {
+        return refused_with(refusal_of(acceptance));
     };
     let d = scan.draft;
     let behind = d.at + 1;

@@ -1,7 +1,7 @@
 // Runs the log reader on the bench's log L, cut at every byte and with every byte set to 0, 1, 2, 4 and 255, and prints each
 // answer: the file, number and place of a refusal, or an accepted log's numbers of fields and events.
-use event_log::Verdict;
 use libc::STDOUT_FILENO;
+use refusal::Acceptance;
 
 // A space and a number.
 fn put(n: usize) {
@@ -12,14 +12,14 @@ fn put(n: usize) {
 // What the reader answers, on one line.
 fn show(l: &[u8]) {
     let r = event_log::read_log(l);
-    let verdict = r.verdict;
-    match verdict {
-        Verdict::Accepted => {
+    let acceptance = r.acceptance;
+    match acceptance {
+        Acceptance::Accepted => {
             io::write_all(STDOUT_FILENO, b"accepted");
             put(r.fields);
             put(r.events);
         }
-        Verdict::Refused(why) => {
+        Acceptance::Refused(why) => {
             let t = refusal::report_of(why);
             io::write_all(STDOUT_FILENO, b"refused");
             put(t.file);

@@ -1,2 +1,3 @@
 -- Definitions of the refusals.
 pub mod Refusals
+pub mod inner

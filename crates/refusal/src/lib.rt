@@ -1,6 +1,7 @@
-// Refusals: what a file or a call is refused with, and the file, number and place that an answer names.
+// Refusals: what a file or a call is refused with, and the file, number and place that an answer names; and whether a file is accepted.
 ghost use mathlib.Core.Path.{_≡_};
 ghost use Rattle.refusal.specs.Refusals.{reportOf};
+ghost use Rattle.refusal.specs.inner.Acceptance.{refusalOf};
 
 // The file that a refusal speaks of; 9, 10 and 11 speak of the call, file 3.
 pub enum File {
@@ -32,6 +33,12 @@ pub enum Refusal {
     Short { needed: usize },
     // 11: more configurations wait than there are seats
     Crowded { place: usize },
+}
+
+// Whether a file is accepted.
+pub enum Acceptance {
+    Accepted,
+    Refused(Refusal),
 }
 
 // What an answer names: the file (1 log, 2 formula, 3 the call), the number and the place.
@@ -78,5 +85,15 @@ pub fn report_of(r: Refusal) -> Report
         Refusal::Outside { start } => line(3, 9, start),
         Refusal::Short { needed } => line(3, 10, needed),
         Refusal::Crowded { place } => line(3, 11, place),
+    }
+}
+
+// The refusal of a file that is not accepted.
+pub fn refusal_of(a: Acceptance) -> Refusal
+    ensures { λ r. ⌜ r ≡ refusalOf a ⌝ }
+{
+    match a {
+        Acceptance::Refused(r) => r,
+        Acceptance::Accepted => Refusal::DeadStart,
     }
 }

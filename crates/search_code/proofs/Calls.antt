@@ -8,7 +8,7 @@ use lib.ListN.{length}
 use Rattle.base.specs.Lists.{Bytes}
 use Rattle.refusal.specs.declared.Refusal.{Refusal}
 use Rattle.refusal.specs.declared.Refusal.the-variants.{Outside, Short}
-use Rattle.event_log.specs.declared.Verdict.the-variants as LogVerdictIs
+use Rattle.refusal.specs.declared.Acceptance.the-variants as FileIs
 use Rattle.event_log.specs.declared.LogReading.{LogReading}
 use Rattle.event_log.specs.Correct as LogCorrect
 use Rattle.event_log.specs.Encode as LogEncode
@@ -24,7 +24,6 @@ use Rattle.formula.proofs.Reading as FormulaAccepted
 use Rattle.runs.specs.inner.Search.{search}
 use Rattle.machine.specs.Machine.{machine}
 use Rattle.search.specs.declared.SearchAnswer.{SearchAnswer}
-use Rattle.formula_code.specs.declared.Verdict.the-variants as FormulaVerdictIs
 use Rattle.formula_code.specs.declared.FormulaReading.{FormulaReading}
 use Rattle.search.specs.Search.{slotsOf, refusal, checked, withFormula, withLog, searchAnswer}
 use Rattle.search.specs.Call.{Untouched}
@@ -86,13 +85,13 @@ module _ (l f : List ℕ) (log : LogReading) (formula : FormulaReading) (start :
 
 module _ (l f : List ℕ) (start : ℕ) (work : List ℕ) (log : LogReading) (read : LogRead.ReadsLog l log) where
   -- the log is refused
-  pub by-log : (r : Refusal) (x : SearchAnswer) → log .verdict ≡ LogVerdictIs.Refused r → x ≡ refusal r → x ≡ searchAnswer l f start (length work)
+  pub by-log : (r : Refusal) (x : SearchAnswer) → log .acceptance ≡ FileIs.Refused r → x ≡ refusal r → x ≡ searchAnswer l f start (length work)
   unfolding searchAnswer
-  by-log r x v q = q ∙ sym (ap (λ y. withLog y f start (length work)) (log-refused (LogRead.readLog l) r (ap (λ (y : LogReading). y .verdict) (sym read) ∙ v)))
+  by-log r x v q = q ∙ sym (ap (λ y. withLog y f start (length work)) (log-refused (LogRead.readLog l) r (ap (λ (y : LogReading). y .acceptance) (sym read) ∙ v)))
 
-  module _ (bytes : Bytes l) (v : log .verdict ≡ LogVerdictIs.Accepted) where
+  module _ (bytes : Bytes l) (v : log .acceptance ≡ FileIs.Accepted) where
     taken : LogTaken (LogRead.readLog l)
-    taken = log-taken (LogRead.readLog l) (ap (λ (y : LogReading). y .verdict) (sym read) ∙ v)
+    taken = log-taken (LogRead.readLog l) (ap (λ (y : LogReading). y .acceptance) (sym read) ∙ v)
 
     log-is : log ≡ LogRead.answerOf (LogRead.accepted (taken .file))
     log-is = read ∙ ap LogRead.answerOf (taken .is)
@@ -111,17 +110,17 @@ module _ (l f : List ℕ) (start : ℕ) (work : List ℕ) (log : LogReading) (re
       formula-read = given ∙ ap (λ n. formulaAnswer (FormulaRead.readFormula n f)) (ap (λ (y : LogReading). y .fields) log-is)
 
       -- the formula is refused
-      pub by-formula : (r : Refusal) (x : SearchAnswer) → formula .verdict ≡ FormulaVerdictIs.Refused r → x ≡ refusal r
+      pub by-formula : (r : Refusal) (x : SearchAnswer) → formula .acceptance ≡ FileIs.Refused r → x ≡ refusal r
           → x ≡ searchAnswer l f start (length work)
       unfolding searchAnswer
       by-formula r x w q =
           q ∙ sym (ap (λ y. withLog y f start (length work)) (taken .is)
           ∙ ap (λ y. withFormula (logOf (taken .file)) y start (length work)) (formula-refused (FormulaRead.readFormula (length (taken .file .fields)) f) r
-          (ap (λ (y : FormulaReading). y .verdict) (sym formula-read) ∙ w)))
+          (ap (λ (y : FormulaReading). y .acceptance) (sym formula-read) ∙ w)))
 
-      module _ (more : Bytes f) (w : formula .verdict ≡ FormulaVerdictIs.Accepted) where
+      module _ (more : Bytes f) (w : formula .acceptance ≡ FileIs.Accepted) where
         both : FormulaTaken (FormulaRead.readFormula (length (taken .file .fields)) f)
-        both = formula-taken (FormulaRead.readFormula (length (taken .file .fields)) f) (ap (λ (y : FormulaReading). y .verdict) (sym formula-read) ∙ w)
+        both = formula-taken (FormulaRead.readFormula (length (taken .file .fields)) f) (ap (λ (y : FormulaReading). y .acceptance) (sym formula-read) ∙ w)
 
         -- both files are accepted
         pub by-search : (after : List ℕ) (x : SearchAnswer) → CheckedIs l log f formula start work after x

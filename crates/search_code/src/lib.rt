@@ -3,7 +3,9 @@ use event_log::Event;
 use event_log::Latest;
 use event_log::LogReading;
 use formula_code::FormulaReading;
+use refusal::Acceptance;
 use refusal::Refusal;
+use refusal::refusal_of;
 use search::SearchAnswer;
 use search::Verdict;
 use slots::Thread;
@@ -23,7 +25,7 @@ ghost use Rattle.search.specs.Call.{Searched};
 ghost use Rattle.search_code.specs.inner.Turn.{entriesOf, verdictAt, namedAnswer, momentOf, TurnIs, TurnOf, Fits, scopeOf, SearchedFrom};
 ghost use Rattle.threads.specs.inner.Setting.{Wide};
 ghost use Rattle.threads.specs.inner.Event.{Seated};
-ghost use Rattle.search_code.specs.inner.Checks.{CheckedIs, refusalOfLog, refusalOfFormula};
+ghost use Rattle.search_code.specs.inner.Checks.{CheckedIs};
 
 // What one event does to a search: a run ends on it, more wait than there are slots, or so many wait after it.
 enum Outcome {
@@ -314,39 +316,19 @@ fn checked(
     search_from(l, &places, f, &table, scope, start, work)
 }
 
-// The refusal of a log that was not accepted.
-pub fn refusal_of_log(v: event_log::Verdict) -> Refusal
-    ensures { λ r. ⌜ r ≡ refusalOfLog v ⌝ }
-{
-    match v {
-        event_log::Verdict::Refused(r) => r,
-        event_log::Verdict::Accepted => Refusal::DeadStart,
-    }
-}
-
-// The refusal of a formula that was not accepted.
-pub fn refusal_of_formula(v: formula_code::Verdict) -> Refusal
-    ensures { λ r. ⌜ r ≡ refusalOfFormula v ⌝ }
-{
-    match v {
-        formula_code::Verdict::Refused(r) => r,
-        formula_code::Verdict::Accepted => Refusal::DeadStart,
-    }
-}
-
 // The search from an event, over the bytes of the two files, with threads in the lent words.
 pub fn search(l: &[u8], f: &[u8], start: usize, work: &mut [u32]) -> SearchAnswer
     ensures { λ r. ⌜ Searched (now (l .entry)) (now (f .entry)) start (now (work .entry)) (now (work .exit)) r ⌝ }
 {
     let log = event_log::read_log(l);
-    let log_verdict = log.verdict;
-    let event_log::Verdict::Accepted = log_verdict else {
-        return refused(refusal_of_log(log_verdict));
+    let log_verdict = log.acceptance;
+    let Acceptance::Accepted = log_verdict else {
+        return refused(refusal_of(log_verdict));
     };
     let formula = formula_code::read_formula(f, log.fields);
-    let formula_verdict = formula.verdict;
-    let formula_code::Verdict::Accepted = formula_verdict else {
-        return refused(refusal_of_formula(formula_verdict));
+    let formula_verdict = formula.acceptance;
+    let Acceptance::Accepted = formula_verdict else {
+        return refused(refusal_of(formula_verdict));
     };
     checked(l, log, f, formula, start, work)
 }

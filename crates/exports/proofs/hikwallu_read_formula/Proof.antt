@@ -8,12 +8,12 @@ use Rattle.exports.proofs.hikwallu_read_formula.Tie as tie
 read-formula-requires : tie.Need-read-formula-requires
 read-formula-requires c κs = search needs
 
-formula-refusal-requires : tie.Need-formula-refusal-requires
-formula-refusal-requires c κs = search needs
+file-refusal-requires : tie.Need-file-refusal-requires
+file-refusal-requires c κs = search needs
 
 returns : tie.Need-returns
-returns c = c .formula-refusal .ensures ∙ ap exportedFormula (c .before .read-formula .ensures)
+returns c = c .file-refusal .ensures ∙ ap exportedFormula (c .before .read-formula .ensures)
 
 pub hikwallu-read-formula-spec : {M : Type 1} → statement M
 hikwallu-read-formula-spec =
-    tie.close (tie.spec read-formula-requires formula-refusal-requires returns)
+    tie.close (tie.spec read-formula-requires file-refusal-requires returns)

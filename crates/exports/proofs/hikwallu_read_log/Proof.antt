@@ -6,11 +6,11 @@ use Rattle.exports.proofs.hikwallu_read_log.Tie as tie
 read-log-requires : tie.Need-read-log-requires
 read-log-requires c κs = search needs
 
-log-refusal-requires : tie.Need-log-refusal-requires
-log-refusal-requires c κs = search needs
+file-refusal-requires : tie.Need-file-refusal-requires
+file-refusal-requires c κs = search needs
 
 returns : tie.Need-returns
-returns c = rw (c .log-refusal .ensures, c .before .read-log .ensures)
+returns c = rw (c .file-refusal .ensures, c .before .read-log .ensures)
 
 pub hikwallu-read-log-spec : {M : Type 1} → statement M
-hikwallu-read-log-spec = tie.close (tie.spec read-log-requires log-refusal-requires returns)
+hikwallu-read-log-spec = tie.close (tie.spec read-log-requires file-refusal-requires returns)

@@ -2,9 +2,10 @@
 use mathlib.Core.Path.{_∙_, ap}
 use native.Mathlib.Omega.{arith}
 use Rattle.base.proofs.Lists.{all-bytes}
+use Rattle.refusal.specs.inner.Acceptance.{refusalOf}
 use Rattle.formula.specs.Read.{refused}
 use Rattle.formula_code.specs.Answer.{answerOf}
-use Rattle.formula_code.specs.inner.Judge.{refusalIn, judgedWith}
+use Rattle.formula_code.specs.inner.Judge.{judgedWith}
 use Rattle.formula_code.proofs.SameAnswer.{answer-refused, answer-leftover, answer-judged}
 use borrow.Author.Needs.{needs}
 use Rattle.formula_code.proofs.read_formula.Statement.{statement}
@@ -19,8 +20,8 @@ enum-told c = search needs
 enum-told-2 : tie.Need-enum-told-2
 enum-told-2 c = search needs
 
-refusal-in-requires : tie.Need-refusal-in-requires
-refusal-in-requires c κs = search needs
+refusal-of-requires : tie.Need-refusal-of-requires
+refusal-of-requires c κs = search needs
 
 refused-with-requires : tie.Need-refused-with-requires
 refused-with-requires c κs = search needs
@@ -36,7 +37,7 @@ returns c =
     let a = p .before .args in
     let b = all-bytes (a .l .now) (λ i. omega (arith, p .shared-slice-known .given i)) in
     c .refused-with .ensures
-    ∙ ap (λ r. answerOf (refused r)) (c .before .refusal-in .ensures ∙ ap refusalIn (n .1))
+    ∙ ap (λ r. answerOf (refused r)) (c .before .refusal-of .ensures ∙ ap refusalOf (n .1))
     ∙ answer-refused (a .fields) (a .l .now) b (k .result) (n .0 .0) (k .ensures) (n .1)
 
 add-behind : tie.Need-add-behind
@@ -94,7 +95,7 @@ read-formula-spec =
     scan-file-requires
     enum-told
     enum-told-2
-    refusal-in-requires
+    refusal-of-requires
     refused-with-requires
     returns
     add-behind

@@ -8,12 +8,12 @@ use lib.ListN.{length, drop, set, replicate}
 use Rattle.refusal.specs.declared.File.the-variants.{Formula as InFormula}
 use Rattle.refusal.specs.declared.Refusal.{Refusal}
 use Rattle.refusal.specs.declared.Refusal.the-variants.{CutShort}
+use Rattle.refusal.specs.declared.Acceptance.the-variants.{Accepted, Refused}
 use Rattle.formula.specs.declared.Summary.{Summary}
 use Rattle.command_reader.specs.declared.Command.{Command as Kept}
 use Rattle.command_reader.specs.declared.Command.the-variants.{Tied, State, Step, Test, Testv, Bind, Guard}
 use Rattle.command_reader.specs.declared.Next.{Next as Read}
 use Rattle.command_reader.specs.declared.Next.the-variants.{Taken, End, Bad}
-use Rattle.formula_code.specs.declared.Verdict.the-variants.{Accepted, Refused}
 use Rattle.formula_code.specs.declared.Draft.{Draft}
 use Rattle.formula_code.specs.declared.Scan.{Scan}
 use Rattle.formula.specs.Read.{next}
@@ -183,10 +183,10 @@ emptyDraft =
 
 -- END was reached; a command was refused, and nothing is handed on
 abbrev pub arrived : Draft → Scan
-arrived d = record { verdict = Accepted; draft = d }
+arrived d = record { acceptance = Accepted; draft = d }
 
 abbrev pub stopped : Refusal → Scan
-stopped r = record { verdict = Refused r; draft = emptyDraft }
+stopped r = record { acceptance = Refused r; draft = emptyDraft }
 
 -- the end of the walk, where no command was taken
 abbrev pub finishedWith : Draft → Read → Scan

@@ -2,7 +2,7 @@
 use Rattle.base.proofs.Lists.{all-bytes}
 use Rattle.search_code.proofs.Calls.{by-log, few-events, by-formula, by-search}
 use Rattle.search.specs.Search.{refusal}
-use Rattle.search_code.specs.inner.Checks.{refusalOfLog, refusalOfFormula}
+use Rattle.refusal.specs.inner.Acceptance.{refusalOf}
 use mathlib.Core.Path.{refl, ap, _∙_}
 use native.Mathlib.Omega.{arith}
 use denote.Ref.{now}
@@ -19,8 +19,8 @@ enum-told c = search needs
 enum-told-2 : tie.Need-enum-told-2
 enum-told-2 c = search needs
 
-refusal-of-log-requires : tie.Need-refusal-of-log-requires
-refusal-of-log-requires c κs = search needs
+refusal-of-requires : tie.Need-refusal-of-requires
+refusal-of-requires c κs = search needs
 
 refused-requires : tie.Need-refused-requires
 refused-requires c κs = search needs
@@ -30,7 +30,7 @@ returns c =
     let c4 = c .before .before .before .before in
     let c8 = c4 .before .before .before .before in
     let a = c8 .args in
-    let e = c .refused .ensures ∙ ap refusal (c .before .refusal-of-log .ensures ∙ ap refusalOfLog (c .before .before .enum-told2 .given .1)) in
+    let e = c .refused .ensures ∙ ap refusal (c .before .refusal-of .ensures ∙ ap refusalOf (c .before .before .enum-told2 .given .1)) in
     record {
       answer =
           by-log (now (a .l)) (now (a .f)) (a .start) (now (a .work)) (c4 .read-log .result) (c4 .read-log .ensures)
@@ -49,8 +49,8 @@ enum-told-3 c = search needs
 enum-told-4 : tie.Need-enum-told-4
 enum-told-4 c = search needs
 
-refusal-of-formula-requires : tie.Need-refusal-of-formula-requires
-refusal-of-formula-requires c κs = search needs
+refusal-of-requires-2 : tie.Need-refusal-of-requires-2
+refusal-of-requires-2 c κs = search needs
 
 refused-requires-2 : tie.Need-refused-requires-2
 refused-requires-2 c κs = search needs
@@ -63,7 +63,7 @@ returns-2 c =
     let c10 = c7 .before .before .before in
     let c11 = c10 .before in
     let a = c11 .args in
-    let e = c .refused2 .ensures ∙ ap refusal (c .before .refusal-of-formula .ensures ∙ ap refusalOfFormula (c .before .before .enum-told4 .given .1)) in
+    let e = c .refused2 .ensures ∙ ap refusal (c .before .refusal-of2 .ensures ∙ ap refusalOf (c .before .before .enum-told4 .given .1)) in
     let bytes = all-bytes (now (a .l)) (λ i. omega (arith, c10 .shared-slice-known .given i)) in
     record {
       answer =
@@ -111,13 +111,13 @@ search-spec =
     read-log-requires
     enum-told
     enum-told-2
-    refusal-of-log-requires
+    refusal-of-requires
     refused-requires
     returns
     read-formula-requires
     enum-told-3
     enum-told-4
-    refusal-of-formula-requires
+    refusal-of-requires-2
     refused-requires-2
     returns-2
     checked-requires

@@ -7,18 +7,12 @@ use Rattle.event_log.specs.File.{LogFile, logOf}
 use Rattle.event_log.specs.Correct as LogCorrect
 use Rattle.event_log.specs.Encode as LogEncode
 use Rattle.event_log.specs.Read as LogRead
-use Rattle.refusal.specs.declared.Refusal.{Refusal}
-use Rattle.refusal.specs.declared.Refusal.the-variants.{DeadStart}
-use Rattle.event_log.specs.declared.Verdict as LogVerdict
-use Rattle.event_log.specs.declared.Verdict.the-variants as LogVerdictIs
 use Rattle.event_log.specs.declared.LogReading.{LogReading}
 use Rattle.formula.specs.Formula.{Formula}
 use Rattle.formula.specs.Correct as FormulaCorrect
 use Rattle.formula.specs.Encode as FormulaEncode
 use Rattle.formula.specs.Read as FormulaRead
 use Rattle.search.specs.declared.SearchAnswer.{SearchAnswer}
-use Rattle.formula_code.specs.declared.Verdict.{Verdict as FormulaVerdict}
-use Rattle.formula_code.specs.declared.Verdict.the-variants as FormulaVerdictIs
 use Rattle.formula_code.specs.declared.FormulaReading.{FormulaReading}
 use Rattle.search.specs.Search.{checked}
 use Rattle.search.specs.Call.{Untouched}
@@ -37,12 +31,3 @@ pub record Accepted (t : LogFile) (fm : Formula) (l : List ℕ) (log : LogReadin
 abbrev pub CheckedIs : List ℕ → LogReading → List ℕ → FormulaReading → ℕ → List ℕ → List ℕ → SearchAnswer → Type 0
 CheckedIs l log f formula start work after r =
     (t : LogFile) (fm : Formula) → Accepted t fm l log f formula → (r ≡ checked (logOf t) fm start (length work)) × Untouched r work after
-
--- the refusal that a reader's verdict holds; where it holds none, any
-abbrev pub refusalOfLog : LogVerdict.Verdict → Refusal
-refusalOfLog (LogVerdictIs.Refused r) = r
-refusalOfLog LogVerdictIs.Accepted = DeadStart
-
-abbrev pub refusalOfFormula : FormulaVerdict → Refusal
-refusalOfFormula (FormulaVerdictIs.Refused r) = r
-refusalOfFormula FormulaVerdictIs.Accepted = DeadStart
