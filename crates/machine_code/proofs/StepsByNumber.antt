@@ -71,21 +71,21 @@ module _ (p : ℕ → Bool) where
   lowest-last k h g i = let e : k ≡ 8 = omega arith in sym (i ∙ rw e)
 
   -- some of the first n is not expired
-  pub alive-none : (k : ℕ) (b : Bool) → b ≡ not (p k) → b ≡ false → aliveBelow p k ≡ false → aliveBelow p (k + 1) ≡ false
+  pub alive-none : (k : ℕ) → p k ≡ true → aliveBelow p k ≡ false → aliveBelow p (k + 1) ≡ false
   unfolding aliveBelow
-  alive-none k b e h i = rw (add-one k, ← e, h, i)
+  alive-none k e i = rw (add-one k, e, i)
 
-  alive-below : (k n : ℕ) → k < n → not (p k) ≡ true → aliveBelow p n ≡ true
+  alive-below : (k n : ℕ) → k < n → p k ≡ false → aliveBelow p n ≡ true
   unfolding aliveBelow
   alive-below k zero h e = absurd (omega arith)
   alive-below k (suc n) h e = go (λ (l : k < n). alive-below k n l e) (eqb k n) refl
     where
       go : (k < n → aliveBelow p n ≡ true) → (b : Bool) → eqb k n ≡ b → (not (p n) || aliveBelow p n) ≡ true
-      go ih true q = or-first (not (p n)) (aliveBelow p n) (ap (λ i. not (p i)) (sym (eqb-true k n q)) ∙ e)
+      go ih true q = or-first (not (p n)) (aliveBelow p n) (ap (λ i. not (p i)) (sym (eqb-true k n q)) ∙ ap not e)
       go ih false q = or-right (not (p n)) (aliveBelow p n) (ih (omega (arith, eqb-false k n q)))
 
-  pub alive-here : (k : ℕ) (b : Bool) → k < 8 → b ≡ not (p k) → b ≡ true → true ≡ aliveBelow p 8
-  alive-here k b h e t = sym (alive-below k 8 h (sym e ∙ t))
+  pub alive-here : (k : ℕ) → k < 8 → p k ≡ false → true ≡ aliveBelow p 8
+  alive-here k h e = sym (alive-below k 8 h e)
 
 -- how one step of the search ends
 module _ (f table : List ℕ) (c : Configuration) (event : List ℕ) (k at : ℕ) (place : at ≡ offsetOf table (c .state) k) where
@@ -117,12 +117,12 @@ module _ (f table : List ℕ) (c : Configuration) (event : List ℕ) (k at : ℕ
         let d : w ≡ walked f at c (replicate 8 false) event = rw (← from) (walking-done f (c .values) (replicate 8 false) event v w way stop) in
         fires-fired ∙ rw (← d, h, ← n, ← e) q
 
-pub expires-absent : (f table : List ℕ) (c : Configuration) (rising : List Bool) (event : List ℕ) (k at : ℕ) → at ≡ offsetOf table (c .state) k
-    → isStep f at ≡ false → false ≡ not (expiresAt f table c rising event k)
-unfolding expiresAt
-expires-absent f table c rising event k at place h = rw (← place, h)
+-- a step is expired where it is not there, and else where it lapses
+module _ (f table : List ℕ) (c : Configuration) (rises : List Bool) (latest : List ℕ) (k at : ℕ) (place : at ≡ offsetOf table (c .state) k) where
+  pub expires-absent : isStep f at ≡ false → expiresAt f table c rises latest k ≡ true
+  unfolding expiresAt
+  expires-absent h = rw (← place, h)
 
-pub expires-there : (f table : List ℕ) (c : Configuration) (rising : List Bool) (event : List ℕ) (k at : ℕ) (b : Bool)
-    → at ≡ offsetOf table (c .state) k → isStep f at ≡ true → b ≡ lapsed f at c rising event → not b ≡ not (expiresAt f table c rising event k)
-unfolding expiresAt
-expires-there f table c rising event k at b place h e = rw (← place, h, e)
+  pub expires-there : isStep f at ≡ true → expiresAt f table c rises latest k ≡ lapsed f at c rises latest
+  unfolding expiresAt
+  expires-there h = rw (← place, h)

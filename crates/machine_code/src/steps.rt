@@ -9,7 +9,6 @@ use event_log::Event;
 use event_log::Latest;
 use guard_code::guard::guard_holds;
 ghost use mathlib.Core.Path.{_≡_};
-ghost use mathlib.Core.Bool.{not};
 ghost use Rattle.machine_code.specs.inner.Bytes.{offsetOf, isStep, firesAt, lowestOf, expiresAt, aliveBelow};
 
 // Where step k of state s stands, 0 where there is none.
@@ -69,24 +68,6 @@ pub fn lowest(f: &[u8], table: &[usize], c: Configuration, event: Event) -> usiz
     }
 }
 
-// Whether step k of the configuration's state is there and not expired by these values.
-fn alive(
-    f: &[u8],
-    table: &[usize],
-    c: Configuration,
-    rises: [bool; 8],
-    latest: Latest,
-    k: usize,
-) -> bool
-    ensures { λ r. ⌜ r ≡ not (expiresAt (now (f .entry)) (now (table .entry)) c rises (latest .values) k) ⌝ }
-{
-    let at = step_offset(table, c.state, k);
-    if is_step(f, at) {
-        return !expired(f, at, c, rises, latest);
-    }
-    false
-}
-
 // Whether some step of the configuration's state is not expired by these values.
 pub fn hopeful(
     f: &[u8],
@@ -97,12 +78,17 @@ pub fn hopeful(
 ) -> bool
     ensures { λ r. ⌜ r ≡ aliveBelow (expiresAt (now (f .entry)) (now (table .entry)) c rises (latest .values)) 8 ⌝ }
 {
-    let mut k: usize = 0;
-    while k < 8 {
-        if alive(f, table, c, rises, latest, k) {
+    let mut next: usize = 0;
+    while next < 8 {
+        let k = next;
+        next += 1;
+        let at = step_offset(table, c.state, k);
+        if !is_step(f, at) {
+            continue;
+        }
+        if !expired(f, at, c, rises, latest) {
             return true;
         }
-        k += 1;
     }
     false
 }

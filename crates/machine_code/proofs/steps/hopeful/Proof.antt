@@ -1,6 +1,7 @@
--- `steps::hopeful` meets its contract: every step before k is expired.
-use Rattle.machine_code.proofs.StepsByNumber.{alive-none, alive-here}
+-- `steps::hopeful` meets its contract: every step before the next is expired.
+use Rattle.machine_code.proofs.StepsByNumber.{alive-none, alive-here, expires-absent, expires-there}
 use Rattle.machine_code.specs.inner.Bytes.{expiresAt, aliveBelow}
+use borrow.Author.Tests.{not-true, not-false}
 use denote.Ref.{now}
 use mathlib.Core.Path.{_≡_, refl, _∙_, sym, ap}
 use mathlib.Core.Bool.{false}
@@ -11,48 +12,96 @@ use Rattle.machine_code.proofs.steps.hopeful.Statement.{statement}
 use Rattle.machine_code.proofs.steps.hopeful.Tie as tie
 
 abbrev Inv-loop : tie.InvT-loop
-Inv-loop f table c rises latest k₀ k = (k ≤ 8) × (aliveBelow (expiresAt f table c rises (latest .values)) k ≡ false)
+Inv-loop f table c rises latest next₀ next = (next ≤ 8) × (aliveBelow (expiresAt f table c rises (latest .values)) next ≡ false)
 
 abbrev μ-loop : tie.MeasureT-loop
-μ-loop f table c rises latest k₀ k = 8 - k
+μ-loop f table c rises latest next₀ next = 8 - next
 
 loop-holds : tie.Need-loop-holds Inv-loop μ-loop
 unfolding aliveBelow
 loop-holds c = (omega arith, refl)
 
-alive-requires : tie.Need-alive-requires Inv-loop μ-loop
-alive-requires c κs = search needs
+add-next : tie.Need-add-next Inv-loop μ-loop
+add-next c = search needs
 
-returns : tie.Need-returns Inv-loop μ-loop
-returns c =
-    let c3 = c .before .before .before in
-    let c3 = c3 in
-    let a = c3 .before .before .before .args in
-    alive-here (expiresAt (now (a .f)) (now (a .table)) (a .c) (a .rises) (a .latest .values)) (c3 .loop .k) (c .before .alive .result)
-    (c .before .before .loop-test .taken) (c .before .alive .ensures) (c .if1 .taken)
+step-offset-requires : tie.Need-step-offset-requires Inv-loop μ-loop
+step-offset-requires c κs = search needs
 
-add-k : tie.Need-add-k Inv-loop μ-loop
-add-k c = search needs
+is-step-requires : tie.Need-is-step-requires Inv-loop μ-loop
+is-step-requires c κs = search needs
 
 loop-less : tie.Need-loop-less Inv-loop μ-loop
 loop-less c = search needs
 
 loop-again : tie.Need-loop-again Inv-loop μ-loop
 loop-again c =
-    let c3 = c .before .before .before in
-    let c3 = c3 in
-    let a = c3 .before .before .before .args in (
-      omega arith,
-      alive-none (expiresAt (now (a .f)) (now (a .table)) (a .c) (a .rises) (a .latest .values)) (c3 .loop .k) (c .before .alive .result)
-          (c .before .alive .ensures) (c .if1 .left) (c3 .loop .inv .1),
+    let c1 = c .before in
+    let c2 = c1 .before in
+    let c3 = c2 .before in
+    let c4 = c3 .before in
+    let c7 = c4 .before .before .before in
+    let a = c7 .args in
+    let i = c4 .loop in
+    let at = c2 .step-offset in
+    let out =
+    expires-absent (now (a .f)) (now (a .table)) (a .c) (a .rises) (a .latest .values) (i .next) (at .result) (at .ensures)
+    (sym (c1 .is-step .ensures) ∙ not-true _ (c .if1 .taken)) in (
+      omega (arith, c3 .loop-test .taken),
+      alive-none (expiresAt (now (a .f)) (now (a .table)) (a .c) (a .rises) (a .latest .values)) (i .next) out (i .inv .1),
+    )
+
+expired-requires : tie.Need-expired-requires Inv-loop μ-loop
+expired-requires c κs = search needs
+
+returns : tie.Need-returns Inv-loop μ-loop
+returns c =
+    let c1 = c .before in
+    let c2 = c1 .before in
+    let c3 = c2 .before in
+    let c4 = c3 .before in
+    let c5 = c4 .before in
+    let c6 = c5 .before in
+    let c9 = c6 .before .before .before in
+    let a = c9 .args in
+    let i = c6 .loop in
+    let at = c4 .step-offset in
+    let there =
+    expires-there (now (a .f)) (now (a .table)) (a .c) (a .rises) (a .latest .values) (i .next) (at .result) (at .ensures)
+    (sym (c3 .is-step .ensures) ∙ not-false _ (c2 .if1 .left)) in
+    alive-here (expiresAt (now (a .f)) (now (a .table)) (a .c) (a .rises) (a .latest .values)) (i .next) (c5 .loop-test .taken)
+    (there ∙ sym (c1 .expired .ensures) ∙ not-true _ (c .if2 .taken))
+
+loop-less-2 : tie.Need-loop-less-2 Inv-loop μ-loop
+loop-less-2 c = search needs
+
+loop-again-2 : tie.Need-loop-again-2 Inv-loop μ-loop
+loop-again-2 c =
+    let c1 = c .before in
+    let c2 = c1 .before in
+    let c3 = c2 .before in
+    let c4 = c3 .before in
+    let c5 = c4 .before in
+    let c6 = c5 .before in
+    let c9 = c6 .before .before .before in
+    let a = c9 .args in
+    let i = c6 .loop in
+    let at = c4 .step-offset in
+    let there =
+    expires-there (now (a .f)) (now (a .table)) (a .c) (a .rises) (a .latest .values) (i .next) (at .result) (at .ensures)
+    (sym (c3 .is-step .ensures) ∙ not-false _ (c2 .if1 .left)) in (
+      omega (arith, c5 .loop-test .taken),
+      alive-none (expiresAt (now (a .f)) (now (a .table)) (a .c) (a .rises) (a .latest .values)) (i .next)
+          (there ∙ sym (c1 .expired .ensures) ∙ not-false _ (c .if2 .left)) (i .inv .1),
     )
 
 returns-2 : tie.Need-returns-2 Inv-loop μ-loop
 returns-2 c =
-    let c4 = c .before .before .before .before in
+    let c1 = c .before in
+    let c4 = c1 .before .before .before in
     let a = c4 .args in
-    let e : c .before .loop .k ≡ 8 = omega arith in
-    sym (c .before .loop .inv .1) ∙ ap (aliveBelow (expiresAt (now (a .f)) (now (a .table)) (a .c) (a .rises) (a .latest .values))) e
+    let i = c1 .loop in
+    let e : i .next ≡ 8 = omega (arith, c .loop-test .left) in
+    sym (i .inv .1) ∙ ap (aliveBelow (expiresAt (now (a .f)) (now (a .table)) (a .c) (a .rises) (a .latest .values))) e
 
 pub hopeful-spec : {M : Type 1} → statement M
 hopeful-spec =
@@ -61,9 +110,13 @@ hopeful-spec =
     Inv-loop
     μ-loop
     loop-holds
-    alive-requires
-    returns
-    add-k
+    add-next
+    step-offset-requires
+    is-step-requires
     loop-less
     loop-again
+    expired-requires
+    returns
+    loop-less-2
+    loop-again-2
     returns-2)
