@@ -15,9 +15,11 @@ use Rattle.formula.specs.Formula.{Expr, Clause, Step, Formula}
 use Rattle.formula.specs.Encode.{CLAUSE, encodeExpr, encodeClause, encodeCommand, guardCommands, stepCommands}
 use Rattle.machine_code.specs.declared.Configuration.{Configuration}
 use Rattle.machine_code.specs.declared.Walked.{Walked}
-use Rattle.formula.specs.Lookup.{stepPlace, guardPlace}
+use Rattle.formula.specs.Lookup.{stepPlace}
+use Rattle.formula.specs.inner.StepBytes.{guardPlace}
 use Rattle.formula.specs.Correct.{Exists, GuardFits, StepFits}
-use Rattle.machine.specs.Configuration.{Config, addOne, total, Valid}
+use Rattle.machine.specs.Configuration.{Config, addOne}
+use Rattle.machine.specs.inner.Valid.{total, Valid}
 use Rattle.machine.specs.Guard.{guardHolds}
 use Rattle.machine.specs.Firing.{bindAll, leave, fires, fire}
 use Rattle.machine.specs.Expiry.{rises}

@@ -9,7 +9,7 @@ use Rattle.refusal.specs.declared.Refusal.the-variants.{Crowded}
 use Rattle.event_log.specs.Log.{Log}
 use Rattle.event_log.specs.Encode as LogEncode
 use Rattle.event_log.specs.File.{LogFile, logOf}
-use Rattle.event_log.specs.Event.{Leads}
+use Rattle.event_log.specs.inner.Loading.{Leads}
 use Rattle.event_log.specs.Correct as LogCorrect
 use Rattle.event_log.specs.declared.LogReading.{LogReading}
 use Rattle.event_log.specs.Read as LogRead

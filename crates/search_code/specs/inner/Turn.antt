@@ -9,7 +9,7 @@ use lib.Dec.{eqb}
 use Rattle.base.specs.Lists.{pad}
 use Rattle.event_log.specs.Log.{Log}
 use Rattle.event_log.specs.declared.Event.{Event}
-use Rattle.event_log.specs.Event.{Leads}
+use Rattle.event_log.specs.inner.Loading.{Leads}
 use Rattle.formula.specs.Formula.{Formula}
 use Rattle.runs.specs.Order.{events, numbers}
 use Rattle.runs.specs.inner.Search as Runs
