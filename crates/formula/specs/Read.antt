@@ -27,15 +27,15 @@ pub data Reading : Type 0 where
 
 -- What decides about the next command is a Summary of those before it, declared with the opcodes in src/lib.rt; that of none
 unfoldable pub start : Summary
-start = record { tied = 0; states = 0; last = false; steps = 0; clauses = 0; guarded = false }
+start = record { tied = 0; states = 0; closed = false; steps = 0; clauses = 0; guarded = false }
 
 -- the summary after one more command
 abbrev pub advance : Summary → Command → Summary
-advance s (TIED v) = record { tied = suc (s .tied); states = s .states; last = s .last; steps = s .steps; clauses = s .clauses; guarded = s .guarded }
-advance s (STATE k) = record { tied = s .tied; states = suc (s .states); last = isFinal k; steps = 0; clauses = 0; guarded = false }
-advance s (STEP t) = record { tied = s .tied; states = s .states; last = s .last; steps = suc (s .steps); clauses = 0; guarded = false }
-advance s (CLAUSE c) = record { tied = s .tied; states = s .states; last = s .last; steps = s .steps; clauses = suc (s .clauses); guarded = s .guarded }
-advance s (GUARD e) = record { tied = s .tied; states = s .states; last = s .last; steps = s .steps; clauses = s .clauses; guarded = true }
+advance s (TIED v) = record { tied = suc (s .tied); states = s .states; closed = s .closed; steps = s .steps; clauses = s .clauses; guarded = s .guarded }
+advance s (STATE k) = record { tied = s .tied; states = suc (s .states); closed = isFinal k; steps = 0; clauses = 0; guarded = false }
+advance s (STEP t) = record { tied = s .tied; states = s .states; closed = s .closed; steps = suc (s .steps); clauses = 0; guarded = false }
+advance s (CLAUSE c) = record { tied = s .tied; states = s .states; closed = s .closed; steps = s .steps; clauses = suc (s .clauses); guarded = s .guarded }
+advance s (GUARD e) = record { tied = s .tied; states = s .states; closed = s .closed; steps = s .steps; clauses = s .clauses; guarded = true }
 
 -- the command that a byte names
 unfoldable pub opcode : ℕ → Opcode
@@ -53,7 +53,7 @@ opcode b =
 abbrev pub allowed : Summary → Opcode → Bool
 allowed s end-op = ltb 0 (s .states)
 allowed s state-op = true
-allowed s step-op = ltb 0 (s .states) && not (s .last)
+allowed s step-op = ltb 0 (s .states) && not (s .closed)
 allowed s test-op = ltb 0 (s .steps) && not (s .guarded)
 allowed s testv-op = ltb 0 (s .steps) && not (s .guarded)
 allowed s bind-op = ltb 0 (s .steps) && not (s .guarded)
