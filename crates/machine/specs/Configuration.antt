@@ -20,7 +20,11 @@ start = record { state = 0; held = replicate 8 false; values = replicate 8 0; co
 
 -- the distinct configurations are told apart by state, held variables, values and counters
 unfoldable pub same : Config → Config → Bool
-same c d = eqb (c .state) (d .state) && sameList Bool·beq (c .held) (d .held) && sameList eqb (c .values) (d .values) && sameList eqb (c .counters) (d .counters)
+same c d =
+    eqb (c .state) (d .state)
+    && sameList Bool·beq (c .held) (d .held)
+    && sameList eqb (c .values) (d .values)
+    && sameList eqb (c .counters) (d .counters)
 
 -- the counters with one added to that of state s
 abbrev pub addOne : List ℕ → ℕ → List ℕ
