@@ -14,7 +14,7 @@ use Rattle.formula.specs.Formula.{Formula}
 use Rattle.runs.specs.Run.{Trail}
 use Rattle.runs.specs.inner.Search.{search}
 use Rattle.runs.specs.Answer.{Answer, found, absent, crowded}
-use Rattle.runs.specs.Demand as Runs
+use Rattle.runs.specs.inner.Demand as Runs
 use Rattle.machine.specs.Configuration.{Config}
 use Rattle.machine.specs.Firing.{isHeld}
 use Rattle.machine.specs.Machine.{machine, accepting}

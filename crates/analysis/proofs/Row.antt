@@ -12,7 +12,7 @@ use Rattle.formula.specs.Formula.{Formula}
 use Rattle.runs.specs.Lists.{In}
 use Rattle.runs.specs.Run.{Trail}
 use Rattle.runs.specs.Answer.{found}
-use Rattle.runs.specs.Demand as Runs
+use Rattle.runs.specs.inner.Demand as Runs
 use Rattle.machine.specs.Configuration.{Config}
 use Rattle.machine.specs.Machine.{machine, accepting}
 use Rattle.machine.proofs.Machine.{Premises}

@@ -11,11 +11,11 @@ use Rattle.formula.specs.Encode.{TIED, stateCommands, commands}
 use Rattle.formula.specs.Correct as FormulaCorrect
 use Rattle.formula.specs.Correct.{Exists}
 use Rattle.formula.proofs.Basics.{all-left}
-use Rattle.runs.specs.Demand.{Demand}
+use Rattle.runs.specs.inner.Demand.{Demand}
 use Rattle.runs.specs.inner.Search.{search}
 use Rattle.runs.specs.Answer.{Answer, found, absent, crowded}
 use Rattle.runs.proofs.Meets.{search-meets}
-use Rattle.machine.specs.Configuration.{Valid}
+use Rattle.machine.specs.inner.Valid.{Valid}
 use Rattle.machine.specs.Machine.{machine}
 use Rattle.machine.proofs.Premises.{premises, keeps}
 use Rattle.search.proofs.Premises.{ends-valid}

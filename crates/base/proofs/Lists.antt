@@ -1,16 +1,23 @@
 -- Laws on lists that several layers cite.
-use Prim.Native.Nat.{ℕ, zero, suc, _+_, _<_}
-use mathlib.Core.Path.{_≡_, refl, ap}
+use Prim.Native.Nat.{ℕ, zero, suc, _+_, _-_, _<_}
+use mathlib.Core.Path.{_≡_, refl, ap, _∙_}
 use mathlib.Core.List.{List, [], _∷_, _++_, append-nil, append-assoc, flatMap}
 use native.Mathlib.Numerals.{add-one}
 use native.Mathlib.Omega.{arith}
-use lib.ListN.{length, getD, drop, set, replicate}
-use lib.Seq.{drop-cons}
+use lib.ListN.{length, getD, take, drop, set, replicate, length-drop}
+use lib.Seq.{take-all, drop-cons}
 use Rattle.base.specs.Lists.{All, Bytes, pad}
 
 -- a list from `at` on is the element there and the list from the next place on
 pub drop-next : (l : List ℕ) (at : ℕ) → at < length l → drop at l ≡ getD l at 0 ∷ drop (at + 1) l
 drop-next l at h = rw (add-one, drop-cons l at 0)
+
+-- the part of a list from k on, as it is lent, is the list from k on; its length
+pub rest-drop : (l : List ℕ) (k : ℕ) → take (length l - k) (drop k l) ≡ drop k l
+rest-drop l k = take-all (length l - k) (drop k l) (omega (arith, length-drop k l))
+
+pub rest-length : (l : List ℕ) (k : ℕ) → length (take (length l - k) (drop k l)) ≡ length l - k
+rest-length l k = ap length (rest-drop l k) ∙ length-drop k l
 
 -- a list whose every element is a byte
 pub all-bytes : (l : List ℕ) → ((i : ℕ) → getD l i 0 < 256) → Bytes l

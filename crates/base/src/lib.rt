@@ -1,10 +1,10 @@
 // Bytes and values, which every reader of a file takes apart; tests, masks, the lower of two numbers.
 ghost use mathlib.Core.Path.{_≡_};
-ghost use mathlib.Core.Bool.{cond, _&&_};
+ghost use mathlib.Core.Bool.{_&&_};
 ghost use Prim.Native.Nat.{_+_, _<_, _≤_, min};
 ghost use lib.ListN.{getD, length};
 ghost use Rattle.base.specs.Value.{valueAt};
-ghost use Rattle.base.specs.Mask.{mask};
+ghost use Rattle.base.specs.Mask.{bit, mask};
 
 // Both of two tests.
 pub fn both(a: bool, b: bool) -> bool
@@ -20,9 +20,9 @@ pub fn lower(a: usize, b: usize) -> usize
     if a < b { a } else { b }
 }
 
-// A flag as a bit.
-fn bit_of(flag: bool) -> u32
-    ensures { λ r. ⌜ (r ≡ cond flag 1 0) × (r < 2) ⌝ }
+// A flag as 0 or 1.
+pub fn bit_of(flag: bool) -> u32
+    ensures { λ r. ⌜ (r ≡ bit flag) × (r < 2) ⌝ }
 {
     if flag { 1 } else { 0 }
 }

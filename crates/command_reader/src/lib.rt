@@ -67,7 +67,7 @@ fn is_allowed(s: Summary, op: Opcode) -> bool
     match op {
         Opcode::End => 0 < s.states,
         Opcode::State => true,
-        Opcode::Step => some_without(s.states, s.last),
+        Opcode::Step => some_without(s.states, s.closed),
         Opcode::Test => some_without(s.steps, s.guarded),
         Opcode::Testv => some_without(s.steps, s.guarded),
         Opcode::Bind => some_without(s.steps, s.guarded),

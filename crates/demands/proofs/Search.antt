@@ -14,7 +14,8 @@ use Rattle.runs.specs.Run.{Trail, Starts}
 use Rattle.runs.specs.Order.{events}
 use Rattle.runs.specs.inner.Search.{search}
 use Rattle.runs.specs.Answer.{Answer, found, absent, crowded}
-use Rattle.runs.specs.Demand as Runs
+use Rattle.runs.specs.Demand.{FirstCrowded}
+use Rattle.runs.specs.inner.Demand as Runs
 use Rattle.runs.proofs.Comparison.{Rising}
 use Rattle.runs.proofs.Trails.{follow-rising}
 use Rattle.runs.proofs.Meets.{count-one}
@@ -92,7 +93,7 @@ module _ (g : Log) (fm : Formula) (P : Premises g fm) (seats start : ℕ) where
       record {
         counted = counted;
         crowded = (λ s. here, λ s. record { place = n; says = refl });
-        first = λ m e. subst (Runs.FirstCrowded (machine g fm) seats start) (same m e) d;
+        first = λ m e. subst (FirstCrowded (machine g fm) seats start) (same m e) d;
         alone = λ m e. rw (same m e);
         none = λ h. absurd (h here);
         nothing = λ e. absurd (not-absent e);

@@ -12,7 +12,8 @@ use Rattle.formula.specs.Formula.{Formula}
 use Rattle.runs.specs.Run.{last}
 use Rattle.runs.specs.inner.Search.{search}
 use Rattle.runs.specs.Answer.{Answer, found, absent, crowded}
-use Rattle.runs.specs.Demand as Runs
+use Rattle.runs.specs.Demand.{FirstCrowded}
+use Rattle.runs.specs.inner.Demand as Runs
 use Rattle.machine.specs.Firing.{isHeld}
 use Rattle.machine.specs.Machine.{machine, accepting}
 use Rattle.search.specs.declared.Verdict.the-variants as SearchIs
@@ -37,7 +38,7 @@ module _ (l f : List ℕ) (g : Log) (fm : Formula) (words : ℕ) (acc : Accepted
   data Kind (i : ℕ) : Type 0 where
     run : (b : Bool) → Least i b → Kind i
     nothing : Search.Nothing g fm (slotsOf words) i → Kind i
-    full : (n : ℕ) → Runs.FirstCrowded (machine g fm) (slotsOf words) i n → Kind i
+    full : (n : ℕ) → FirstCrowded (machine g fm) (slotsOf words) i n → Kind i
 
   -- a start of the log
   module _ (i : ℕ) (h : i < length (g .events)) where

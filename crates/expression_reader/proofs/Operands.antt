@@ -8,8 +8,8 @@ use native.Mathlib.Nat.{add-assoc}
 use native.Mathlib.Numerals.{one-add}
 use borrow.Author.Tests.{ltb-true, ltb-false, lt-ltb, le-ltb, ne-eqb, eqb-false}
 use lib.Dec.{ltb, eqb}
-use lib.ListN.{length, getD, take, drop, length-append, length-drop}
-use lib.Seq.{take-all}
+use lib.ListN.{length, getD, take, drop, length-append}
+use Rattle.base.proofs.Lists.{rest-drop, rest-length}
 use Rattle.base.proofs.Tests.{cond-holds}
 use Rattle.refusal.specs.declared.File.the-variants.{Formula as InFormula}
 use Rattle.refusal.specs.declared.Refusal.{Refusal}
@@ -252,13 +252,6 @@ module _ (s : ℕ) (own : List Bool) where
       let f : suc left - 1 ≡ left = omega arith in
       rw (suc-eqb (length ops), suc-eqb d, suc-eqb left, e, f) (head-is (readExpr d) (read-uses d) left at b ops places (exprOpcode b) (ordered b) (bytes .1))
 
--- the part of a slice from an offset to its end
-pub part-rest : (bs : List ℕ) (k : ℕ) → take (length bs - k) (drop k bs) ≡ drop k bs
-part-rest bs k = take-all (length bs - k) (drop k bs) (omega (arith, length-drop k bs))
-
-pub part-length : (bs : List ℕ) (k : ℕ) → length (take (length bs - k) (drop k bs)) ≡ length bs - k
-part-length bs k = ap length (part-rest bs k) ∙ length-drop k bs
-
 -- what holds of a reading's end, once the reading is known
 known-end : (x y : ExprRead) (t : List ℕ) (z : ExprEnd) → x ≡ y → endOf x t ≡ z → endOf y t ≡ z
 known-end x y t z e h = ap (λ w. endOf w t) (sym e) ∙ h
@@ -340,7 +333,7 @@ module _ (s : ℕ) (own : List Bool) where
       → (x : ExprEnd) → x ≡ operand depth at bs p places
       → completed depth at bs head ≡ after (λ q t. complete (view s own (readExpr (depth - 1))) (p .operands - 1) at bs (joined p q) t) x
   step-on depth at bs head p places g h x e =
-      rw (e, part-rest bs (p .used)) (g .is ∙ complete-step (view s own (readExpr (depth - 1))) (p .operands) at bs p places h)
+      rw (e, rest-drop bs (p .used)) (g .is ∙ complete-step (view s own (readExpr (depth - 1))) (p .operands) at bs p places h)
 
   pub refused-operand : (depth at : ℕ) (bs : List ℕ) (head : ExprEnd) (p : Prefix) (places : List ℕ) (x : ExprRead) (r : Refusal) (t : List ℕ)
       → Going depth at bs head p places → 0 < p .operands → x ≡ Bad r → endOf x t ≡ operand depth at bs p places
@@ -367,16 +360,16 @@ module _ (s : ℕ) (own : List Bool) where
   pub rest-taken : (d left at : ℕ) (l : List ℕ) (k : ℕ) (places : List ℕ) (x y : ExprRead) (t : List ℕ) → x ≡ y
       → endOf x t ≡ shape s own at places (readExpr d left at (take (length l - k) (drop k l)))
       → endOf y t ≡ shape s own at places (readExpr d left at (drop k l))
-  rest-taken d left at l k places x y t e h = known-end x y t _ e (h ∙ ap (λ bs. shape s own at places (readExpr d left at bs)) (part-rest l k))
+  rest-taken d left at l k places x y t e h = known-end x y t _ e (h ∙ ap (λ bs. shape s own at places (readExpr d left at bs)) (rest-drop l k))
 
   pub operand-within : (depth at : ℕ) (bs : List ℕ) (p : Prefix) (places : List ℕ) (x : ExprRead) (q : Prefix) (t : List ℕ) → Bytes bs
       → p .used ≤ length bs → x ≡ Taken q → endOf x t ≡ operand depth at bs p places → p .used + q .used ≤ length bs
   operand-within depth at bs p places x q t bytes i e f =
-      let b = subst Bytes (sym (part-rest bs (p .used))) (bytes-drop (p .used) bs bytes) in
+      let b = subst Bytes (sym (rest-drop bs (p .used))) (bytes-drop (p .used) bs bytes) in
       omega (
         arith,
         i,
-        part-length bs (p .used),
+        rest-length bs (p .used),
         taken-within (depth - 1) (p .left) (at + p .used) (take (length bs - p .used) (drop (p .used) bs)) places q t b (known-end x (Taken q) t _ e f),
       )
 

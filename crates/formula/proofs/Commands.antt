@@ -30,7 +30,7 @@ use Rattle.formula.proofs.Exprs.{LeavesExist, Finds, expr-found, expr-r
 abbrev pub Fits : Summary → Command → Type 0
 Fits s (TIED v) = (s .states ≡ 0) × (s .tied < 8)
 Fits s (STATE k) = s .states < 16
-Fits s (STEP t) = (0 < s .states) × (s .last ≡ false) × (s .steps < 8)
+Fits s (STEP t) = (0 < s .states) × (s .closed ≡ false) × (s .steps < 8)
 Fits s (CLAUSE c) = (0 < s .steps) × (s .guarded ≡ false) × (s .clauses < 8)
 Fits s (GUARD e) = (0 < s .steps) × (s .guarded ≡ false) × (size e ≤ 31) × (depth e ≤ 8)
 
@@ -108,8 +108,8 @@ operands-takes fields s at b ops width exist c f = by-operands at ops width exis
 -- what the tests tell of a STEP, and of a TEST, TESTV or BIND
 step-fits : (s : Summary) (t : ℕ) → allowed s step-op ≡ true → room s step-op ≡ true → Fits s (STEP t)
 step-fits s t a r = (
-  ltb-true 0 (s .states) (and-left (ltb 0 (s .states)) (not (s .last)) a),
-  not-true (s .last) (and-right (ltb 0 (s .states)) (not (s .last)) a),
+  ltb-true 0 (s .states) (and-left (ltb 0 (s .states)) (not (s .closed)) a),
+  not-true (s .closed) (and-right (ltb 0 (s .states)) (not (s .closed)) a),
   ltb-true (s .steps) 8 r,
 )
 

@@ -23,27 +23,27 @@ pub record Counts (f : Formula) : Type 0 where
 -- the same state and number of steps
 pub record Same (s t : Summary) : Type 0 where
   pub states : t .states ≡ s .states
-  pub last : t .last ≡ s .last
+  pub closed : t .closed ≡ s .closed
   pub steps : t .steps ≡ s .steps
 
 same : (s : Summary) → Same s s
-same s = record { states = refl; last = refl; steps = refl }
+same s = record { states = refl; closed = refl; steps = refl }
 
 fit-clauses : (xs : List Clause) (s : Summary) (cs : List Command) → 0 < s .steps → s .guarded ≡ false → s .clauses + length xs ≤ 8
     → ((t : Summary) → Same s t → t .guarded ≡ false → Follows t cs) → Follows s (map CLAUSE xs ++ cs)
 fit-clauses [] s cs h g k c = c s (same s) g
 fit-clauses (x ∷ xs) s cs h g k c = (
   (h, g, omega arith),
-  fit-clauses xs (advance s (CLAUSE x)) cs h g (omega arith) (λ t e q. c t (record { states = e .states; last = e .last; steps = e .steps }) q),
+  fit-clauses xs (advance s (CLAUSE x)) cs h g (omega arith) (λ t e q. c t (record { states = e .states; closed = e .closed; steps = e .steps }) q),
 )
 
 fit-guard : (o : Option Expr) (s : Summary) (cs : List Command) → 0 < s .steps → s .guarded ≡ false → GuardFits o
     → ((t : Summary) → Same s t → Follows t cs) → Follows s (guardCommands o ++ cs)
 unfolding guardCommands
 fit-guard none s cs h g k c = c s (same s)
-fit-guard (some e) s cs h g k c = ((h, g, k .0, k .1), c (advance s (GUARD e)) (record { states = refl; last = refl; steps = refl }))
+fit-guard (some e) s cs h g k c = ((h, g, k .0, k .1), c (advance s (GUARD e)) (record { states = refl; closed = refl; steps = refl }))
 
-fit-steps : (xs : List Step) (s : Summary) (cs : List Command) → 0 < s .states → s .last ≡ false → s .steps + length xs ≤ 8 → All StepFits xs
+fit-steps : (xs : List Step) (s : Summary) (cs : List Command) → 0 < s .states → s .closed ≡ false → s .steps + length xs ≤ 8 → All StepFits xs
     → ((t : Summary) → t .states ≡ s .states → Follows t cs) → Follows s (flatMap stepCommands xs ++ cs)
 unfolding flatMap stepCommands
 fit-steps [] s cs h l k a c = c s refl
@@ -59,14 +59,14 @@ fit-steps (x ∷ xs) s cs h l k a c =
           (λ t e q.
           fit-guard (x .guard) t rest (let b = e .steps in omega arith) q (a .0 .guard)
           (λ u i.
-          fit-steps xs u cs (let b = i .states in let d = e .states in omega arith) (i .last ∙ (e .last ∙ l))
+          fit-steps xs u cs (let b = i .states in let d = e .states in omega arith) (i .closed ∙ (e .closed ∙ l))
           (let b = i .steps in let d = e .steps in omega arith) (a .1) (λ w z. c w (z ∙ (i .states ∙ e .states))))),
     )
 
 fit-state : (x : State) (s : Summary) (cs : List Command) → StateFits x → ((t : Summary) → t .states ≡ suc (s .states) → Follows t cs) → (b : Bool)
     → isFinal (x .kind) ≡ b → Follows (advance s (STATE (x .kind))) (flatMap stepCommands (x .steps) ++ cs)
 unfolding flatMap
-fit-state x s cs a c true e = rw (a .last e) (c (advance s (STATE (x .kind))) refl)
+fit-state x s cs a c true e = rw (a .closed e) (c (advance s (STATE (x .kind))) refl)
 fit-state x s cs a c false e = fit-steps (x .steps) (advance s (STATE (x .kind))) cs (omega arith) e (let b = a .steps in omega arith) (a .each) c
 
 fit-states : (xs : List State) (s : Summary) → s .states + length xs ≤ 16 → All StateFits xs → Follows s (flatMap stateCommands xs)
@@ -104,7 +104,7 @@ record AfterGuard (s : Summary) (o : Option Expr) (cs : List Command) : Type 0 w
 record AfterSteps (s : Summary) (xs : List Step) (cs : List Command) : Type 0 where
   most : s .steps + length xs ≤ 8
   each : All StepFits xs
-  last : s .last ≡ true → xs ≡ []
+  closed : s .closed ≡ true → xs ≡ []
   after : Summary
   states : after .states ≡ s .states
   follows : Follows after cs
@@ -124,7 +124,7 @@ count-clauses (x ∷ xs) s cs k h =
     record {
       most = omega arith;
       after = i .after;
-      same = record { states = i .same .states; last = i .same .last; steps = i .same .steps };
+      same = record { states = i .same .states; closed = i .same .closed; steps = i .same .steps };
       follows = i .follows;
     }
 
@@ -132,11 +132,11 @@ count-guard : (o : Option Expr) (s : Summary) (cs : List Command) → Follows s 
 unfolding guardCommands
 count-guard none s cs h = record { fits = tt; after = s; same = same s; follows = h }
 count-guard (some e) s cs h =
-    record { fits = (h .0 .2, h .0 .3); after = advance s (GUARD e); same = record { states = refl; last = refl; steps = refl }; follows = h .1 }
+    record { fits = (h .0 .2, h .0 .3); after = advance s (GUARD e); same = record { states = refl; closed = refl; steps = refl }; follows = h .1 }
 
 count-steps : (xs : List Step) (s : Summary) (cs : List Command) → s .steps ≤ 8 → Follows s (flatMap stepCommands xs ++ cs) → AfterSteps s xs cs
 unfolding flatMap stepCommands
-count-steps [] s cs k h = record { most = omega arith; each = tt; last = λ e. refl; after = s; states = refl; follows = h }
+count-steps [] s cs k h = record { most = omega arith; each = tt; closed = λ e. refl; after = s; states = refl; follows = h }
 count-steps (x ∷ xs) s cs k h =
     let rest = flatMap stepCommands xs ++ cs in
     let l = h .0 .2 in
@@ -159,7 +159,7 @@ count-steps (x ∷ xs) s cs k h =
     record {
       most = omega arith;
       each = (record { clauses = omega arith; guard = b .fits }, c .each);
-      last = λ e. absurd (true≢false (sym e ∙ h .0 .1));
+      closed = λ e. absurd (true≢false (sym e ∙ h .0 .1));
       after = c .after;
       states = omega arith;
       follows = c .follows;
@@ -175,7 +175,7 @@ count-states (x ∷ xs) s k h =
     let a₂ = a .most in
     let i = count-states xs (a .after) (omega arith) (a .follows) in
     let i₁ = i .0 in
-    (omega arith, (record { steps = omega arith; last = a .last; each = a .each }, i .1))
+    (omega arith, (record { steps = omega arith; closed = a .closed; each = a .each }, i .1))
 
 count-tied : (vs : List ℕ) (s : Summary) (cs : List Command) → s .tied ≤ 8 → Follows s (map TIED vs ++ cs) → AfterTied s (length vs) cs
 count-tied [] s cs k h = record { most = omega arith; after = s; states = refl; follows = h }

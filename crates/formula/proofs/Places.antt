@@ -13,7 +13,8 @@ use Rattle.formula.specs.Formula.{Expr, Clause, Step, State, Formula}
 use Rattle.formula.specs.Encode.{Command, TIED, STATE, CLAUSE, guardCommands, stepCommands, stateCommands, commands, encodeExpr, encodeClause}
 use Rattle.formula.specs.Encode.{encodeCommand, encode}
 use Rattle.formula.specs.Unbound.{stepsOf}
-use Rattle.formula.specs.Lookup.{stepAt, kindAt, commandsBefore, stepPlace, encodeGuard, encodeStep, guardPlace, placeIf, tableFrom, stepTable}
+use Rattle.formula.specs.Lookup.{stepAt, kindAt, commandsBefore, stepPlace, placeIf, tableFrom, stepTable}
+use Rattle.formula.specs.inner.StepBytes.{encodeGuard, encodeStep, guardPlace}
 use Rattle.formula.proofs.Closure.{noState, no-steps}
 
 -- "STEP 11, STATE 10 or END 00": what may stand behind a step

@@ -42,7 +42,7 @@ all-map P g (x ∷ xs) a = (a .0, all-map P g xs (a .1))
 
 -- a state with a step neither accepts nor rejects
 has-step : (x : State) (k : ℕ) (t : Step) → StateFits x → getElem? (x .steps) k ≡ some t → (b : Bool) → isFinal (x .kind) ≡ b → b ≡ false
-has-step x k t h e true q = absurd (Option·none-ne-some t (subst (λ (xs : List Step). getElem? xs k ≡ some t) (h .last q) e))
+has-step x k t h e true q = absurd (Option·none-ne-some t (subst (λ (xs : List Step). getElem? xs k ≡ some t) (h .closed q) e))
 has-step x k t h e false q = refl
 
 -- a step of a correct formula is right

@@ -157,7 +157,8 @@ sum n a b = let l = length-append a b in omega arith
 fill-quiet : (qs : List Command) (s : Summary) (at : ℕ) (tab : List ℕ) (cs : List Command) (r : List ℕ) → All Quiet qs
     → ((t : Summary) → Same s t → fill t (at + length (flatMap encodeCommand qs)) tab cs ≡ r) → fill s at tab (qs ++ cs) ≡ r
 unfolding fill flatMap
-fill-quiet [] s at tab cs r q c = subst (λ n. fill s n tab cs ≡ r) (native.Mathlib.Nat.add-zero at) (c s (record { states = refl; last = refl; steps = refl }))
+fill-quiet [] s at tab cs r q c =
+    subst (λ n. fill s n tab cs ≡ r) (native.Mathlib.Nat.add-zero at) (c s (record { states = refl; closed = refl; steps = refl }))
 fill-quiet (TIED v ∷ qs) s at tab cs r q c = absurd (q .0)
 fill-quiet (STATE k ∷ qs) s at tab cs r q c = absurd (q .0)
 fill-quiet (STEP t ∷ qs) s at tab cs r q c = absurd (q .0)
@@ -165,12 +166,12 @@ fill-quiet (CLAUSE x ∷ qs) s at tab cs r q c =
     fill-quiet qs (advance s (CLAUSE x)) (at + length (encodeCommand (CLAUSE x))) tab cs r (q .1)
     (λ t h.
     subst (λ n. fill t n tab cs ≡ r) (sum at (encodeCommand (CLAUSE x)) (flatMap encodeCommand qs))
-    (c t (record { states = h .states; last = h .last; steps = h .steps })))
+    (c t (record { states = h .states; closed = h .closed; steps = h .steps })))
 fill-quiet (GUARD x ∷ qs) s at tab cs r q c =
     fill-quiet qs (advance s (GUARD x)) (at + length (encodeCommand (GUARD x))) tab cs r (q .1)
     (λ t h.
     subst (λ n. fill t n tab cs ≡ r) (sum at (encodeCommand (GUARD x)) (flatMap encodeCommand qs))
-    (c t (record { states = h .states; last = h .last; steps = h .steps })))
+    (c t (record { states = h .states; closed = h .closed; steps = h .steps })))
 
 step-there : (f : Formula) (s k : ℕ) (t : Step) → getElem? (stepsOf f s) k ≡ some t → stepAt f s k ≡ some t
 unfolding stepAt

@@ -6,12 +6,12 @@ use mathlib.Core.List.{List, [], _∷_}
 use native.Mathlib.Omega.{arith}
 use native.Mathlib.Nat.{pow-suc, mul-assoc, mul-add, mul-one, mul-zero, one-mul, zero-add}
 use lib.ListN.{length, getD}
-use Rattle.base.specs.Mask.{mask}
+use Rattle.base.specs.Mask.{bit, mask}
 use Rattle.base.proofs.Masks.{mask-bit as flag-bit}
 use Rattle.formula.specs.Formula.{Formula}
 use Rattle.formula.specs.Lookup.{isTied, maskFrom, tiedMask}
 
-bit-shift : (b : Bool) (p d : ℕ) → cond b p 0 + p * 2 * d ≡ p * (cond b 1 0 + 2 * d)
+bit-shift : (b : Bool) (p d : ℕ) → cond b p 0 + p * 2 * d ≡ p * (bit b + 2 * d)
 bit-shift true p d = rw (mul-add p 1 (2 * d), mul-one, mul-assoc p 2 d)
 bit-shift false p d = rw (zero-add (2 * d), zero-add (p * 2 * d), mul-assoc p 2 d)
 
@@ -42,5 +42,5 @@ unfolding tiedMask flags
 whole f = mask-from (f .tied) 0 (flags (f .tied) 0 8) (flags-at (f .tied) 0 8) ∙ one-mul (mask (flags (f .tied) 0 8))
 
 -- bit v of the mask is set exactly when v is tied
-pub mask-bit : (f : Formula) (v : ℕ) → v < 8 → tiedMask f / 2 ^ v % 2 ≡ cond (isTied v (f .tied)) 1 0
-mask-bit f v h = rw (whole f) (flag-bit (flags (f .tied) 0 8) v ∙ ap (λ b. cond b 1 0) (flags-at (f .tied) 0 8 v h ∙ ap (λ w. isTied w (f .tied)) (zero-add v)))
+pub mask-bit : (f : Formula) (v : ℕ) → v < 8 → tiedMask f / 2 ^ v % 2 ≡ bit (isTied v (f .tied))
+mask-bit f v h = rw (whole f) (flag-bit (flags (f .tied) 0 8) v ∙ ap bit (flags-at (f .tied) 0 8 v h ∙ ap (λ w. isTied w (f .tied)) (zero-add v)))

@@ -94,7 +94,7 @@ pub record StepFits (t : Step) : Type 0 where
 -- "STEP .. at most 8 a state; in accept or reject it is foreign"
 pub record StateFits (s : State) : Type 0 where
   pub steps : length (s .steps) ≤ 8
-  pub last : isFinal (s .kind) ≡ true → s .steps ≡ []
+  pub closed : isFinal (s .kind) ≡ true → s .steps ≡ []
   pub each : All StepFits (s .steps)
 
 -- "unbound at a TESTV": no clause of state s is a TESTV of an unbound variable

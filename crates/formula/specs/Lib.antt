@@ -5,3 +5,4 @@ pub mod Unbound
 pub mod Correct
 pub mod Read
 pub mod Lookup
+pub mod inner

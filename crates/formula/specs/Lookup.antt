@@ -1,12 +1,12 @@
--- Where a step stands: a step by its state and number, its bytes and its offset in the file, the table of all offsets; and the tied variables as a mask.
+-- Where a step stands: a step by its state and number, its offset in the file, the table of all offsets; and the tied variables as a mask.
 use Prim.Native.Nat.{ℕ, zero, suc, _+_, _/_, _%_, _^_}
 use mathlib.Core.Bool.{Bool, false, cond, _||_}
 use mathlib.Core.List.{List, [], _∷_, _++_, map, flatMap}
 use mathlib.Core.Option.{Option, none, some}
 use lib.Dec.{eqb}
 use lib.ListN.{length, getD, take, getElem?}
-use Rattle.formula.specs.Formula.{Expr, Step, StateKind, ordinary, Formula}
-use Rattle.formula.specs.Encode.{Command, TIED, STATE, encodeExpr, encodeClause, encodeCommand, stepCommands, stateCommands}
+use Rattle.formula.specs.Formula.{Step, StateKind, ordinary, Formula}
+use Rattle.formula.specs.Encode.{Command, TIED, STATE, encodeCommand, stepCommands, stateCommands}
 use Rattle.formula.specs.Unbound.{stepsOf}
 
 -- "STEP target: the next step, from 0, of the state above it": step k of state s
@@ -24,19 +24,6 @@ commandsBefore f s k = map TIED (f .tied) ++ (flatMap stateCommands (take s (f .
 -- "the offset of the command's first byte", of step k of state s
 unfoldable pub stepPlace : Formula → ℕ → ℕ → ℕ
 stepPlace f s k = length (flatMap encodeCommand (commandsBefore f s k))
-
--- "15 GUARD .. one expression follows in prefix order": the bytes of a step's guard, if it has one
-unfoldable pub encodeGuard : Option Expr → List ℕ
-encodeGuard none = []
-encodeGuard (some e) = 0x15 ∷ encodeExpr e
-
--- the bytes of a step: its STEP, its clauses, its guard
-unfoldable pub encodeStep : Step → List ℕ
-encodeStep t = 0x11 ∷ t .target ∷ (flatMap encodeClause (t .clauses) ++ encodeGuard (t .guard))
-
--- where the guard of step k of state s stands or would stand: behind the step's clauses
-unfoldable pub guardPlace : Formula → ℕ → ℕ → Step → ℕ
-guardPlace f s k t = stepPlace f s k + (2 + length (flatMap encodeClause (t .clauses)))
 
 -- a step's offset, 0 where there is no such step
 abbrev pub placeIf : Option Step → ℕ → ℕ

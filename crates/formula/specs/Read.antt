@@ -1,4 +1,5 @@
--- Reading a formula file: "Files are read from the front and the first bad command decides; within one the order is 2, 4, 1, 3. After END: 5; then 3 for the first STEP or COUNT naming an absent state; then 7; then 8".
+-- Reading a formula file: "Files are read from the front and the first bad command decides; within one the order is 2, 4, 1, 3. After END: 5; then
+-- 3 for the first STEP or COUNT naming an absent state; then 7; then 8".
 use Prim.Native.Nat.{ℕ, zero, suc, _+_, _-_}
 use mathlib.Core.Bool.{Bool, true, false, cond, not, _&&_}
 use mathlib.Core.List.{List, [], _∷_, _++_}
@@ -27,15 +28,15 @@ pub data Reading : Type 0 where
 
 -- What decides about the next command is a Summary of those before it, declared with the opcodes in src/lib.rt; that of none
 unfoldable pub start : Summary
-start = record { tied = 0; states = 0; last = false; steps = 0; clauses = 0; guarded = false }
+start = record { tied = 0; states = 0; closed = false; steps = 0; clauses = 0; guarded = false }
 
 -- the summary after one more command
 abbrev pub advance : Summary → Command → Summary
-advance s (TIED v) = record { tied = suc (s .tied); states = s .states; last = s .last; steps = s .steps; clauses = s .clauses; guarded = s .guarded }
-advance s (STATE k) = record { tied = s .tied; states = suc (s .states); last = isFinal k; steps = 0; clauses = 0; guarded = false }
-advance s (STEP t) = record { tied = s .tied; states = s .states; last = s .last; steps = suc (s .steps); clauses = 0; guarded = false }
-advance s (CLAUSE c) = record { tied = s .tied; states = s .states; last = s .last; steps = s .steps; clauses = suc (s .clauses); guarded = s .guarded }
-advance s (GUARD e) = record { tied = s .tied; states = s .states; last = s .last; steps = s .steps; clauses = s .clauses; guarded = true }
+advance s (TIED v) = record { tied = suc (s .tied); states = s .states; closed = s .closed; steps = s .steps; clauses = s .clauses; guarded = s .guarded }
+advance s (STATE k) = record { tied = s .tied; states = suc (s .states); closed = isFinal k; steps = 0; clauses = 0; guarded = false }
+advance s (STEP t) = record { tied = s .tied; states = s .states; closed = s .closed; steps = suc (s .steps); clauses = 0; guarded = false }
+advance s (CLAUSE c) = record { tied = s .tied; states = s .states; closed = s .closed; steps = s .steps; clauses = suc (s .clauses); guarded = s .guarded }
+advance s (GUARD e) = record { tied = s .tied; states = s .states; closed = s .closed; steps = s .steps; clauses = s .clauses; guarded = true }
 
 -- the command that a byte names
 unfoldable pub opcode : ℕ → Opcode
@@ -53,7 +54,7 @@ opcode b =
 abbrev pub allowed : Summary → Opcode → Bool
 allowed s end-op = ltb 0 (s .states)
 allowed s state-op = true
-allowed s step-op = ltb 0 (s .states) && not (s .last)
+allowed s step-op = ltb 0 (s .states) && not (s .closed)
 allowed s test-op = ltb 0 (s .steps) && not (s .guarded)
 allowed s testv-op = ltb 0 (s .steps) && not (s .guarded)
 allowed s bind-op = ltb 0 (s .steps) && not (s .guarded)
@@ -196,9 +197,11 @@ operandsOf fields at ops other-op = bad (Foreign InFormula at)
 -- "within one the order is 2, 4, 1, 3": the command at `at`, with the number of fields; "with END missing, the file length"
 unfoldable pub next : ℕ → Summary → ℕ → List ℕ → Next
 next fields s at [] = bad (CutShort InFormula at)
-next fields s at (b ∷ ops) = cond (allowed s (opcode b)) (cond (room s (opcode b)) (operandsOf fields at ops (opcode b)) (bad (Surplus InFormula at))) (bad (Foreign InFormula at))
+next fields s at (b ∷ ops) =
+    cond (allowed s (opcode b)) (cond (room s (opcode b)) (operandsOf fields at ops (opcode b)) (bad (Surplus InFormula at))) (bad (Foreign InFormula at))
 
--- the commands read, assembled into a formula from the last one on: clauses and guard of the step that will stand before them, steps of the state that will, states, tied variables
+-- the commands read, assembled into a formula from the last one on: clauses and guard of the step that will stand before them, steps of the state
+-- that will, states, tied variables
 pub record Assembly : Type 0 where
   pub clauses : List Clause
   pub guard : Option Expr
@@ -273,7 +276,8 @@ unfoldable pub firstAbsent : ℕ → ℕ → List Command → Option ℕ
 firstAbsent states at [] = none
 firstAbsent states at (c ∷ cs) = orElse (absentIn states at c) (firstAbsent states (at + length (encodeCommand c)) cs)
 
--- "a TESTV or VAR as above, the first in the file": `seen` STATEs were passed, the last one holds the step with the clauses `own` so far; `open v s` says that v is unbound in state s
+-- "a TESTV or VAR as above, the first in the file": `seen` STATEs were passed, the last one holds the step with the clauses `own` so far; `open v s`
+-- says that v is unbound in state s
 abbrev pub seenAfter : ℕ → Command → ℕ
 seenAfter seen (TIED v) = seen
 seenAfter seen (STATE k) = suc seen
@@ -330,7 +334,8 @@ follow go-on s cs at rest (command c used) = go-on (advance s c) (cs ++ (c ∷ [
 follow go-on s cs at rest end = afterEnd (assemble cs) (at + 1) (drop 1 rest)
 follow go-on s cs at rest (bad r) = refused r
 
--- the file from offset `at` on, where `rest` stands, after the commands `cs` whose summary is s; each command takes a byte, so that `fuel` above the length never ends
+-- the file from offset `at` on, where `rest` stands, after the commands `cs` whose summary is s; each command takes a byte, so that `fuel` above the
+-- length never ends
 unfoldable pub readFrom : ℕ → ℕ → Summary → List Command → ℕ → List ℕ → Reading
 readFrom zero fields s cs at rest = refused (CutShort InFormula at)
 readFrom (suc fuel) fields s cs at rest = follow (readFrom fuel fields) s cs at rest (next fields s at rest)

@@ -1,10 +1,11 @@
 // The formula file: what decides about its next command, in the definition and in the code that reads it.
 
-// How many TIEDs, states, steps of the last state and clauses of the last step were read, whether the last state accepts or rejects, whether the last step has its GUARD.
+// How many TIEDs, states, steps of the last state and clauses of the last step were read; whether the last state accepts or rejects, and so takes no
+// step; whether the last step has its GUARD.
 pub struct Summary {
     pub tied: usize,
     pub states: usize,
-    pub last: bool,
+    pub closed: bool,
     pub steps: usize,
     pub clauses: usize,
     pub guarded: bool,

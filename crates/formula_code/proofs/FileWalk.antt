@@ -8,6 +8,7 @@ use mathlib.Core.Logic.{⊎-elim}
 use denote.Enum.Declared.{tagOf}
 use types.Run.{OneOf}
 use lib.ListN.{length, take, drop, length-append, length-drop}
+use Rattle.base.proofs.Lists.{rest-drop}
 use Rattle.base.specs.Lists.{Bytes}
 use Rattle.command_reader.proofs.Next as NextType
 use Rattle.formula.specs.declared.Summary.{Summary}
@@ -27,7 +28,6 @@ use Rattle.command_reader.specs.inner.Take.{commandShape, NextEnd, goes-on, end
 use Rattle.formula_code.specs.inner.Scan.{Counted, Ready, Within, advanceBy, kindsWith, tableWith, tiesWith, countWith, fromWith, toWith}
 use Rattle.formula_code.specs.inner.Scan.{boundWith, ownWith, placesWith, added, emptyDraft, arrived, finishedWith, onward, nextFrom, scanFrom}
 use Rattle.formula_code.specs.inner.Scan.{scanFile, Scanned}
-use Rattle.expression_reader.proofs.Operands.{part-rest}
 
 -- the counts stay within theirs
 pub counted-on : (s : Summary) (c : Kept) → Counted s → Ready s c → Counted (advanceBy s c)
@@ -175,7 +175,7 @@ module _ (fields : ℕ) (l : List ℕ) where
 
   next-from : (d : Draft) (x : NextEnd) → x ≡ found d → x ≡ nextFrom fields l d
   unfolding nextFrom
-  next-from d x f = rw (part-rest l (d .at)) at f
+  next-from d x f = rw (rest-drop l (d .at)) at f
 
   went-on : (d : Draft) (x : Read) (c : Kept) (u : ℕ) (t : List ℕ) → x ≡ Taken c u → nextEnd x t ≡ found d → goes-on c u t ≡ nextFrom fields l d
   went-on d x c u t q e = next-from d (goes-on c u t) (ap (λ y. nextEnd y t) (sym q) ∙ e)

@@ -36,7 +36,7 @@ use Rattle.formula_code.specs.inner.Judge.{acceptedWith, judgedWith}
 use Rattle.formula.proofs.Assembling.{commands-assemble}
 use Rattle.formula.proofs.Reading.{advances, states-passed, reached-start, Complete, reached-end}
 use Rattle.formula.proofs.Table.{fill, fill-table}
-use Rattle.formula_code.proofs.SameCommands.{addC, draftAfter, last-kind, summary-after, at-after, Whole, Broken, Outcome, outcome}
+use Rattle.formula_code.proofs.SameCommands.{addC, draftAfter, final-kind, summary-after, at-after, Whole, Broken, Outcome, outcome}
 use Rattle.formula_code.proofs.Outline.{table-after, kinds-after, mask-after}
 use Rattle.expression_reader.proofs.NotedPlaces.{num, Below}
 use Rattle.formula_code.proofs.FirstBad.{placesFrom, absent-place, unbound-place, absent-below, unbound-below}
@@ -121,7 +121,7 @@ judged d f none none false e = e
 dead-start : (xs : List State) → 1 ≤ length xs → ltb 1 (getD (kindsOf xs) 0 0) ≡ deadStart xs
 unfolding kindsOf pad
 dead-start [] h = absurd (omega arith)
-dead-start (x ∷ xs) h = last-kind (x .kind)
+dead-start (x ∷ xs) h = final-kind (x .kind)
 
 module _ (fields : ℕ) (l : List ℕ) (w : Whole fields l (suc (length l)) start [] 0 l) where
   abbrev read-as : Formula

@@ -35,11 +35,11 @@ unfoldable pub draftAfter : Draft → List Command → Draft
 draftAfter d [] = d
 draftAfter d (c ∷ cs) = draftAfter (addC d c) cs
 
-pub last-kind : (k : StateKind) → ltb 1 (kindByte k) ≡ isFinal k
-last-kind ordinary = refl
-last-kind committed = refl
-last-kind accept = refl
-last-kind reject = refl
+pub final-kind : (k : StateKind) → ltb 1 (kindByte k) ≡ isFinal k
+final-kind ordinary = refl
+final-kind committed = refl
+final-kind accept = refl
+final-kind reject = refl
 
 after-snoc : (d : Draft) (cs : List Command) (c : Command) → draftAfter d (cs ++ (c ∷ [])) ≡ addC (draftAfter d cs) c
 unfolding draftAfter
@@ -48,7 +48,7 @@ after-snoc d (b ∷ cs) c = after-snoc (addC d b) cs c
 
 pub summary-add : (d : Draft) (c : Command) → addC d c .summary ≡ advance (d .summary) c
 summary-add d (TIED v) = rw (add-one (d .summary .tied))
-summary-add d (STATE k) = rw (add-one (d .summary .states), last-kind k)
+summary-add d (STATE k) = rw (add-one (d .summary .states), final-kind k)
 summary-add d (STEP t) = rw (add-one (d .summary .steps))
 summary-add d (CLAUSE (TEST f o x)) = rw (add-one (d .summary .clauses))
 summary-add d (CLAUSE (TESTV f o v)) = rw (add-one (d .summary .clauses))

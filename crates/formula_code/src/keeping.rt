@@ -32,7 +32,7 @@ pub fn advance(s: Summary, c: Command) -> Summary
         Command::State(k) => Summary {
             tied: s.tied,
             states: s.states + 1,
-            last: 1 < k,
+            closed: 1 < k,
             steps: 0,
             clauses: 0,
             guarded: false,
@@ -40,7 +40,7 @@ pub fn advance(s: Summary, c: Command) -> Summary
         Command::Step(_t) => Summary {
             tied: s.tied,
             states: s.states,
-            last: s.last,
+            closed: s.closed,
             steps: s.steps + 1,
             clauses: 0,
             guarded: false,

@@ -72,7 +72,7 @@ fn empty_draft() -> Draft
         summary: Summary {
             tied: 0,
             states: 0,
-            last: false,
+            closed: false,
             steps: 0,
             clauses: 0,
             guarded: false,

@@ -6,8 +6,9 @@ use mathlib.Core.List.{List, [], _∷_, _++_, append-assoc}
 use native.Mathlib.Omega.{arith}
 use borrow.Author.Tests.{lt-ltb, le-ltb, ne-eqb, eqb-false, ltb-true, ltb-false}
 use lib.ListN.{length, getD, take, drop, List·getD-eq-default, length-drop, length-append}
-use lib.Seq.{take-all, drop-append-seam}
+use lib.Seq.{drop-append-seam}
 use lib.Dec.{ltb, eqb}
+use Rattle.base.proofs.Lists.{rest-drop}
 use Rattle.base.specs.Value.{bytesOf, valueAt}
 use Rattle.base.proofs.Values.{value-of-bytes}
 use Rattle.formula.specs.Formula.{Leaf, CONST, VAR, COUNT, Expr, LEAF, ADD, SUB, LESS, ATMOST, EQUAL, NOT, AND, OR, IF}
@@ -42,9 +43,6 @@ used-cut part w e h = rw (← e) (omega arith)
 -- a part from k on, as it is lent
 abbrev pub rest : List ℕ → ℕ → List ℕ
 rest l k = take (length l - k) (drop k l)
-
-pub rest-drop : (l : List ℕ) (k : ℕ) → rest l k ≡ drop k l
-rest-drop l k = take-all (length l - k) (drop k l) (omega (arith, length-drop k l))
 
 -- a command that has operands is a byte
 pub some-byte : (part : List ℕ) → (operandsOf (getD part 0 0) ≡ 0 → ⊥) → 1 ≤ length part

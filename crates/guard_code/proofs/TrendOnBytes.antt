@@ -7,6 +7,7 @@ use native.Mathlib.Omega.{arith}
 use borrow.Author.Tests.{ne-eqb, eqb-false}
 use lib.ListN.{length, getD, drop, length-drop, length-append}
 use lib.Dec.{eqb}
+use Rattle.base.proofs.Lists.{rest-drop}
 use Rattle.event_log.specs.Log.{Kind}
 use Rattle.formula.specs.Formula.{Clause, Leaf, CONST, VAR, COUNT, Expr, LEAF, ADD, SUB, LESS, ATMOST, EQUAL, NOT, AND, OR, IF}
 use Rattle.formula.specs.Encode.{encodeLeaf, encodeExpr}
@@ -17,7 +18,7 @@ use Rattle.machine.specs.Expiry.{firstBind, fieldRises, leafRises, leafFalls, r
 use Rattle.guard_code.specs.declared.Judged.{Judged}
 use Rattle.guard_code.specs.inner.Bytes.{operandsOf, leafUsed, leafMarked, turned, kept, judgement, paired, tripled, agreed, judgedBoth}
 use Rattle.guard_code.specs.inner.Bytes.{judgedSecond, judgedFirst, judgedTurned, judged, trendAt, fallsAt}
-use Rattle.guard_code.proofs.GuardOnBytes.{rest, rest-drop, some-byte, leaf-within, Scene, counted, byte-there, fits, behind-one, behind-two}
+use Rattle.guard_code.proofs.GuardOnBytes.{rest, some-byte, leaf-within, Scene, counted, byte-there, fits, behind-one, behind-two}
 use Rattle.guard_code.proofs.GuardOnBytes.{leaf-alone, leaf-used, no-depth}
 
 -- with no command allowed there is nothing

@@ -3,15 +3,7 @@ use crate::Evaluated;
 ghost use mathlib.Core.Path.{_≡_};
 ghost use Prim.Native.Nat.{_-_, _+_, min};
 ghost use lib.ListN.{getD};
-ghost use Rattle.machine.specs.Guard.{bit};
 ghost use Rattle.guard_code.specs.inner.Bytes.{operandsOf, applied, leafValue, leafWidth, leafUsed, evaluated, guardAt};
-
-// "LESS to OR give 0 or 1".
-fn bit_of(test: bool) -> u32
-    ensures { λ r. ⌜ r ≡ bit test ⌝ }
-{
-    if test { 1 } else { 0 }
-}
 
 // "ADD stops at 4294967295".
 pub fn sum(a: u32, b: u32) -> u32
@@ -43,19 +35,19 @@ pub fn operand_count(command: u32) -> usize
     }
 }
 
-// What a command makes of its operands' values.
+// What a command makes of its operands' values. "LESS to OR give 0 or 1".
 fn apply(command: u32, a: u32, b: u32, d: u32) -> u32
     ensures { λ r. ⌜ r ≡ applied command a b d ⌝ }
 {
     match command {
         0x23 => sum(a, b),
         0x24 => difference(a, b),
-        0x25 => bit_of(a < b),
-        0x26 => bit_of(a <= b),
-        0x27 => bit_of(a == b),
-        0x28 => bit_of(!(0 < a)),
-        0x29 => { if 0 < a { bit_of(0 < b) } else { 0 } }
-        0x2A => { if 0 < a { 1 } else { bit_of(0 < b) } }
+        0x25 => base::bit_of(a < b),
+        0x26 => base::bit_of(a <= b),
+        0x27 => base::bit_of(a == b),
+        0x28 => base::bit_of(!(0 < a)),
+        0x29 => { if 0 < a { base::bit_of(0 < b) } else { 0 } }
+        0x2A => { if 0 < a { 1 } else { base::bit_of(0 < b) } }
         _ => { if 0 < a { b } else { d } }
     }
 }

@@ -10,7 +10,8 @@ use lib.Dec.{eqb}
 use borrow.Author.Tests.{eqb-true, eqb-false, eq-eqb}
 use Rattle.event_log.specs.Log.{Values}
 use Rattle.formula.specs.Formula.{Operator, Clause, TEST, TESTV, BIND, Step}
-use Rattle.machine.specs.Configuration.{Config, Valid}
+use Rattle.machine.specs.Configuration.{Config}
+use Rattle.machine.specs.inner.Valid.{Valid}
 use Rattle.machine.specs.Guard.{guardHolds}
 use Rattle.machine.specs.Firing.{holds, field, valueOf, isHeld, bindAll, leave, passes, allPass, fires}
 use Rattle.machine.specs.Expiry.{firstBind}

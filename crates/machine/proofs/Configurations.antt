@@ -9,7 +9,8 @@ use lib.Dec.{eqb}
 use borrow.Author.Tests.{eqb-true, eq-eqb}
 use Rattle.base.specs.Lists.{sameList}
 use Rattle.base.proofs.Same.{list-equal, list-same}
-use Rattle.machine.specs.Configuration.{Config, same, addOne, total}
+use Rattle.machine.specs.Configuration.{Config, same, addOne}
+use Rattle.machine.specs.inner.Valid.{total}
 use Rattle.base.proofs.Tests.{and-left, and-right}
 
 bool-equal : (a b : Bool) → Bool·beq a b ≡ true → a ≡ b

@@ -12,7 +12,8 @@ use lib.Dec.{ltb, leb}
 use borrow.Author.Tests.{ltb-false, leb-false, le-ltb, lt-leb, not-true}
 use Rattle.event_log.specs.Log.{Kind, Values}
 use Rattle.formula.specs.Formula.{Operator, equal, unequal, less, greater, atmost, atleast, Clause, TEST, TESTV, BIND, Step, Leaf, CONST, VAR, COUNT, Expr}
-use Rattle.machine.specs.Configuration.{Config, Valid}
+use Rattle.machine.specs.Configuration.{Config}
+use Rattle.machine.specs.inner.Valid.{Valid}
 use Rattle.machine.specs.Guard.{leaf, value, guardHolds}
 use Rattle.machine.specs.Firing.{holds, field, valueOf, isHeld, bindAll, leave, passes, allPass, fires, fire}
 use Rattle.machine.specs.Expiry.{rises, firstBind, fieldRises, leafRises, leafFalls, missed, pastDue, anyPastDue, guardFalls, expired}

@@ -22,7 +22,8 @@ use Rattle.formula.specs.Formula.{Formula, State, ordinary, Step, Clause, TEST,
 use Rattle.formula.specs.Unbound.{stepsOf}
 use Rattle.formula.specs.Lookup.{stepAt}
 use Rattle.runs.specs.inner.Laws.{Laws}
-use Rattle.machine.specs.Configuration.{Config, start, total, Valid}
+use Rattle.machine.specs.Configuration.{Config, start}
+use Rattle.machine.specs.inner.Valid.{total, Valid}
 use Rattle.machine.specs.Firing.{field, isHeld, hold, bindAll, leave, fires, fire}
 use Rattle.machine.specs.Expiry.{isRising}
 use Rattle.machine.specs.Machine.{fireBy, fireAt, expiredBy, expiredAt, final, machine}

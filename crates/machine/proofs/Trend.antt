@@ -7,10 +7,11 @@ use native.Mathlib.Omega.{arith}
 use native.Mathlib.Nat.{le-refl}
 use lib.Dec.{ltb, leb, eqb}
 use borrow.Author.Tests.{ltb-true, leb-true, lt-ltb, le-leb, not-true}
+use Rattle.base.specs.Mask.{bit}
 use Rattle.event_log.specs.Log.{Kind}
 use Rattle.formula.specs.Formula.{Clause, Leaf, Expr, LEAF, ADD, SUB, LESS, ATMOST, EQUAL, NOT, AND, OR, IF}
 use Rattle.machine.specs.Configuration.{Config}
-use Rattle.machine.specs.Guard.{truth, bit, leaf, value}
+use Rattle.machine.specs.Guard.{truth, leaf, value}
 use Rattle.machine.specs.Expiry.{leafRises, leafFalls, rising, falling}
 use Rattle.base.proofs.Tests.{and-left, and-right, or-keep, not-true-false}
 

@@ -1,11 +1,10 @@
 -- "A configuration is a state, the held variables with values, and a counter per state."
-use Prim.Native.Nat.{ℕ, zero, suc, _+_, _<_}
-use mathlib.Core.Path.{_≡_}
+use Prim.Native.Nat.{ℕ, zero, suc}
 use mathlib.Core.Bool.{Bool, false, _&&_, Bool·beq}
 use mathlib.Core.List.{List, [], _∷_}
-use lib.ListN.{length, getD, replicate}
+use lib.ListN.{replicate}
 use lib.Dec.{eqb}
-use Rattle.base.specs.Lists.{All, sameList}
+use Rattle.base.specs.Lists.{sameList}
 
 -- held and values have a place for each of the 8 variables, counters one for each of the 16 states that there can be;
 -- a value is 0 where its variable is not held, so that equal configurations are equal word by word
@@ -21,7 +20,11 @@ start = record { state = 0; held = replicate 8 false; values = replicate 8 0; co
 
 -- the distinct configurations are told apart by state, held variables, values and counters
 unfoldable pub same : Config → Config → Bool
-same c d = eqb (c .state) (d .state) && sameList Bool·beq (c .held) (d .held) && sameList eqb (c .values) (d .values) && sameList eqb (c .counters) (d .counters)
+same c d =
+    eqb (c .state) (d .state)
+    && sameList Bool·beq (c .held) (d .held)
+    && sameList eqb (c .values) (d .values)
+    && sameList eqb (c .counters) (d .counters)
 
 -- the counters with one added to that of state s
 abbrev pub addOne : List ℕ → ℕ → List ℕ
@@ -29,17 +32,3 @@ addOne [] zero = 1 ∷ []
 addOne [] (suc s) = 0 ∷ addOne [] s
 addOne (x ∷ xs) zero = suc x ∷ xs
 addOne (x ∷ xs) (suc s) = x ∷ addOne xs s
-
--- the counters added up: the number of steps taken
-abbrev pub total : List ℕ → ℕ
-total [] = 0
-total (x ∷ xs) = x + total xs
-
--- what holds of every configuration that a run reaches, in a formula with so many states
-pub record Valid (states : ℕ) (c : Config) : Type 0 where
-  pub declared : c .state < states
-  pub held-8 : length (c .held) ≡ 8
-  pub values-8 : length (c .values) ≡ 8
-  pub counters-16 : length (c .counters) ≡ 16
-  pub unheld-0 : (v : ℕ) → getD (c .held) v false ≡ false → getD (c .values) v 0 ≡ 0
-  pub fits : All (λ x. x < 4294967296) (c .values)

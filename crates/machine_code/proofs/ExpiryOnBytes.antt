@@ -49,8 +49,8 @@ module _ (f : List ℕ) (at : ℕ) (c : Configuration) (rising : List Bool) (eve
 
 -- what marks a variable as growing: its mark before, or the field of its first BIND
 abbrev later : List Kind → Bool → Option ℕ → Bool
-later kinds g none = g
-later kinds g (some f) = rises kinds f
+later fieldKinds g none = g
+later fieldKinds g (some f) = rises fieldKinds f
 
 -- a walk with a mark for each variable
 record Marked (w : Walked) : Type 0 where
@@ -66,12 +66,12 @@ unfolding bound holding
 bound-marked w next v x r true e m = rw e (record { held-8 = m .held-8; grows-8 = m .grows-8 })
 bound-marked w next v x r false e m = rw e (record { held-8 = length-set (w .held) v true ∙ m .held-8; grows-8 = length-set (w .grows) v r ∙ m .grows-8 })
 
-module _ (f : List ℕ) (kinds : List Kind) (rising : List Bool) (mark : (g : ℕ) → getD rising g false ≡ rises kinds g) (prior event : List ℕ) (v : ℕ)
+module _ (f : List ℕ) (fieldKinds : List Kind) (rising : List Bool) (mark : (g : ℕ) → getD rising g false ≡ rises fieldKinds g) (prior event : List ℕ) (v : ℕ)
     (small : v < 8) where
   abbrev Grown : List Clause → Walked → Type 0
   Grown ks w =
       getD ((walkOf f prior rising event w ks) .grows) v false ≡ cond (getD (w .held) v false) (getD (w .grows) v false)
-      (later kinds (getD (w .grows) v false) (firstBind ks v))
+      (later fieldKinds (getD (w .grows) v false) (firstBind ks v))
 
   cond-same : (b g : Bool) → g ≡ cond b g g
   cond-same true g = refl
@@ -79,7 +79,7 @@ module _ (f : List ℕ) (kinds : List Kind) (rising : List Bool) (mark : (g : �
 
   tested-grown : (ks : List Clause) (w : Walked) (next o x y : ℕ) (r : Bool) → Grown ks (tested w next o x y r)
       → getD ((walkOf f prior rising event (tested w next o x y r) ks) .grows) v false
-      ≡ cond (getD (w .held) v false) (getD (w .grows) v false) (later kinds (getD (w .grows) v false) (firstBind ks v))
+      ≡ cond (getD (w .held) v false) (getD (w .grows) v false) (later fieldKinds (getD (w .grows) v false) (firstBind ks v))
   unfolding tested
   tested-grown ks w next o x y r e = e
 
@@ -87,8 +87,8 @@ module _ (f : List ℕ) (kinds : List Kind) (rising : List Bool) (mark : (g : �
   bound-marks : (ks : List Clause) (w : Walked) (next g u x : ℕ) → Marked w → (b : Bool) → getD (w .held) u false ≡ b → (t : Bool) → eqb u v ≡ t
       → cond (getD ((bound w next u x (getD rising g false)) .held) v false)
       (getD ((bound w next u x (getD rising g false)) .grows) v false)
-      (later kinds (getD ((bound w next u x (getD rising g false)) .grows) v false) (firstBind ks v))
-      ≡ cond (getD (w .held) v false) (getD (w .grows) v false) (later kinds (getD (w .grows) v false) (cond (eqb u v) (some g) (firstBind ks v)))
+      (later fieldKinds (getD ((bound w next u x (getD rising g false)) .grows) v false) (firstBind ks v))
+      ≡ cond (getD (w .held) v false) (getD (w .grows) v false) (later fieldKinds (getD (w .grows) v false) (cond (eqb u v) (some g) (firstBind ks v)))
   unfolding bound holding
   bound-marks ks w next g u x m true e true q =
       let p : u ≡ v = eqb-true u v q in
@@ -119,24 +119,25 @@ module _ (f : List ℕ) (kinds : List Kind) (rising : List Bool) (mark : (g : �
       grown ks (bound w (w .at + 3) u (getD event g 0) (getD rising g false)) (bound-marked w _ _ _ _ (getD (w .held) u false) refl m)
       ∙ bound-marks ks w (w .at + 3) g u (getD event g 0) m (getD (w .held) u false) refl (eqb u v) refl
 
-held-first : (kinds : List Kind) (b : Bool) (o : Option ℕ) → cond b b (later kinds b o) ≡ (b || fieldRises kinds o)
-held-first kinds true o = refl
-held-first kinds false none = refl
-held-first kinds false (some f) = refl
+held-first : (fieldKinds : List Kind) (b : Bool) (o : Option ℕ) → cond b b (later fieldKinds b o) ≡ (b || fieldRises fieldKinds o)
+held-first fieldKinds true o = refl
+held-first fieldKinds false none = refl
+held-first fieldKinds false (some f) = refl
 
-module _ (fields states : ℕ) (f : List ℕ) (at : ℕ) (s : Step) (h : StepAt fields states f at s) (kinds : List Kind) (rising : List Bool)
-    (mark : (g : ℕ) → getD rising g false ≡ rises kinds g) (c : Configuration) (r : Ready c) (event : List ℕ) where
+module _ (fields states : ℕ) (f : List ℕ) (at : ℕ) (s : Step) (h : StepAt fields states f at s) (fieldKinds : List Kind) (rising : List Bool)
+    (mark : (g : ℕ) → getD rising g false ≡ rises fieldKinds g) (c : Configuration) (r : Ready c) (event : List ℕ) where
   -- the variables that the walk marks as growing are those that the definition calls rising
-  walk-grows : (v : ℕ) → v < 8 → getD ((walked f at c rising event) .grows) v false ≡ (isHeld (configOf c) v || fieldRises kinds (firstBind (s .clauses) v))
+  walk-grows : (v : ℕ) → v < 8
+      → getD ((walked f at c rising event) .grows) v false ≡ (isHeld (configOf c) v || fieldRises fieldKinds (firstBind (s .clauses) v))
   unfolding begun
   walk-grows v small =
       ap (λ (w : Walked). getD (w .grows) v false) (walked-encode fields states f at s h c rising event)
-      ∙ grown f kinds rising mark (c .values) event v small (s .clauses) (begun at c) (record { held-8 = r .held-8; grows-8 = r .held-8 })
-      ∙ held-first kinds (getD (c .held) v false) (firstBind (s .clauses) v)
+      ∙ grown f fieldKinds rising mark (c .values) event v small (s .clauses) (begun at c) (record { held-8 = r .held-8; grows-8 = r .held-8 })
+      ∙ held-first fieldKinds (getD (c .held) v false) (firstBind (s .clauses) v)
 
   -- the guard behind the walk is falling exactly where the step's guard is
   falls-encode : (g : Option Expr) (p : ℕ) → drop p f ≡ guardBytes g ++ h .after → All (Exists fields states) (guardCommands g) → GuardFits g
-      → fallsAt (leafMarked (c .held)) (leafMarked ((walked f at c rising event) .grows)) f p ≡ guardFalls kinds (configOf c) (s .clauses) g
+      → fallsAt (leafMarked (c .held)) (leafMarked ((walked f at c rising event) .grows)) f p ≡ guardFalls fieldKinds (configOf c) (s .clauses) g
   unfolding fallsAt guardCommands
   falls-encode none p e x y =
       let b : getD f p 0 ≡ getD (h .after) 0 0 = first-byte f (h .after) p e in
@@ -145,16 +146,16 @@ module _ (fields states : ℕ) (f : List ℕ) (at : ℕ) (s : Step) (h : StepAt 
       let b : getD f p 0 ≡ 0x15 = first-byte f _ p e in
       let d : drop (p + 1) f ≡ encodeExpr g ++ h .after = drop-more f (0x15 ∷ []) (encodeExpr g ++ h .after) p e in
       let grows = (walked f at c rising event) .grows in
-      let up = marked-rises kinds (configOf c) (s .clauses) states grows walk-grows in
-      let down = marked-falls kinds (configOf c) (s .clauses) states in
-      let j = judge-encode kinds (configOf c) (s .clauses) (LeafExists states) (leafMarked grows) (leafMarked (c .held)) up down g 8 (x .0) (y .1) in
+      let up = marked-rises fieldKinds (configOf c) (s .clauses) states grows walk-grows in
+      let down = marked-falls fieldKinds (configOf c) (s .clauses) states in
+      let j = judge-encode fieldKinds (configOf c) (s .clauses) (LeafExists states) (leafMarked grows) (leafMarked (c .held)) up down g 8 (x .0) (y .1) in
       rw (b, d, j .is-falling (h .after))
 
   -- A step's bytes are expired exactly where the step is.
-  pub expired-encode : lapsed f at c rising event ≡ expired kinds (configOf c) s event
+  pub expired-encode : lapsed f at c rising event ≡ expired fieldKinds (configOf c) s event
   unfolding lapsed expired leave begun
   expired-encode =
-      let a = walked-along fields states f at s h kinds rising mark c event in
+      let a = walked-along fields states f at s h fieldKinds rising mark c event in
       let g = guard-left fields states f at s h c rising event r (a .agrees) in
       let x = guard-exists fields states (s .clauses) (s .guard) (parts-exist fields states f at s h) in
       let p = falls-encode (s .guard) ((walked f at c rising event) .at) (walked-ends fields states f at s h c rising event) x (h .fits .guard) in

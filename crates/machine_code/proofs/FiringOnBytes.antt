@@ -15,9 +15,11 @@ use Rattle.formula.specs.Formula.{Expr, Clause, Step, Formula}
 use Rattle.formula.specs.Encode.{CLAUSE, encodeExpr, encodeClause, encodeCommand, guardCommands, stepCommands}
 use Rattle.machine_code.specs.declared.Configuration.{Configuration}
 use Rattle.machine_code.specs.declared.Walked.{Walked}
-use Rattle.formula.specs.Lookup.{stepPlace, guardPlace}
+use Rattle.formula.specs.Lookup.{stepPlace}
+use Rattle.formula.specs.inner.StepBytes.{guardPlace}
 use Rattle.formula.specs.Correct.{Exists, GuardFits, StepFits}
-use Rattle.machine.specs.Configuration.{Config, addOne, total, Valid}
+use Rattle.machine.specs.Configuration.{Config, addOne}
+use Rattle.machine.specs.inner.Valid.{total, Valid}
 use Rattle.machine.specs.Guard.{guardHolds}
 use Rattle.machine.specs.Firing.{bindAll, leave, fires, fire}
 use Rattle.machine.specs.Expiry.{rises}
@@ -176,12 +178,12 @@ module _ (fields states : ℕ) (f : List ℕ) (at : ℕ) (s : Step) (h : StepAt 
       rw (b, d, v)
 
   -- the walk over the step's bytes binds, passes and is due as the definition says
-  pub walked-along : (kinds : List Kind) (rising : List Bool) → ((g : ℕ) → getD rising g false ≡ rises kinds g) → (c : Configuration) (event : List ℕ)
-      → Along kinds (configOf c) (configOf c) event (s .clauses) (begun at c) (walked f at c rising event)
+  pub walked-along : (fieldKinds : List Kind) (rising : List Bool) → ((g : ℕ) → getD rising g false ≡ rises fieldKinds g) → (c : Configuration) (event : List ℕ)
+      → Along fieldKinds (configOf c) (configOf c) event (s .clauses) (begun at c) (walked f at c rising event)
   unfolding begun
-  walked-along kinds rising kept c event =
+  walked-along fieldKinds rising kept c event =
       rw (walked-encode c rising event)
-      (along f kinds rising kept (configOf c) event (s .clauses) (configOf c) (begun at c) (record { held = refl; values = refl }))
+      (along f fieldKinds rising kept (configOf c) event (s .clauses) (configOf c) (begun at c) (record { held = refl; values = refl }))
 
   -- the guard behind the walk, with what it has bound and the counters raised, is the step's guard in the configuration that it leaves
   pub guard-left : (c : Configuration) (rising : List Bool) (event : List ℕ) → Ready c

@@ -38,7 +38,12 @@ module _ (M : Machine) where
   -- what covers y covers x, where y stands before x in one configuration
   pub covered-trans : (ths : List (Thread M)) (y x : Thread M) → y .config ≡ x .config → AtMost (y .trail) (x .trail) → Covered ths y → Covered ths x
   covered-trans ths y x e a c =
-      record { thread = c .thread; member = c .member; config-is = c .config-is ∙ e; under = at-most-trans (c .thread .trail) (y .trail) (x .trail) (c .under) a }
+      record {
+        thread = c .thread;
+        member = c .member;
+        config-is = c .config-is ∙ e;
+        under = at-most-trans (c .thread .trail) (y .trail) (x .trail) (c .under) a;
+      }
 
   pub covered-self : (ths : List (Thread M)) (x : Thread M) → In x ths → Covered ths x
   covered-self ths x m = record { thread = x; member = m; config-is = refl; under = at-most-self (x .trail) }

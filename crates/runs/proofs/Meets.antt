@@ -19,7 +19,8 @@ use Rattle.runs.specs.inner.Order.{order}
 use Rattle.runs.specs.Waiting.{Count}
 use Rattle.runs.specs.Answer.{Answer}
 use Rattle.runs.specs.inner.Search.{Thread, next, endings, least, waitingCount, overfull, outcome, scan, origin, search}
-use Rattle.runs.specs.Demand.{Crowded, Reached, Peak, Named, Absent, Demand}
+use Rattle.runs.specs.Demand.{Crowded, Reached, Peak}
+use Rattle.runs.specs.inner.Demand.{Named, Absent, Demand}
 use Rattle.runs.proofs.Lists.{same-length}
 use Rattle.runs.proofs.Comparison.{AtMost, order-later, rising-last}
 use Rattle.runs.proofs.Trails.{follow-rising, run-there}

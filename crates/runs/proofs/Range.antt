@@ -5,7 +5,8 @@ use mathlib.Core.Logic.{_↔_}
 use mathlib.Core.List.{[], _∷_}
 use Prim.Native.Nat.{ℕ, suc, _-_, _≤_, _<_}
 use native.Mathlib.Omega.{arith}
-use Rattle.runs.specs.Machine.{Machine, upto}
+use Rattle.runs.specs.Machine.{Machine}
+use Rattle.runs.specs.inner.Range.{upto}
 use Rattle.runs.specs.inner.Laws.{Laws}
 use Rattle.runs.specs.Run.{Entry, Trail, last, Takes, Follow, Run}
 use Rattle.runs.specs.inner.Search.{firing, moves, stays, unended, offers, next, endings, lesser, leastFrom, least, anyAlive, hopeful, waiting, waitingCount, scan, origin, search}

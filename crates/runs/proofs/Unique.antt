@@ -11,7 +11,8 @@ use Rattle.runs.specs.Run.{Trail, last, Follow}
 use Rattle.runs.specs.Order.{Later}
 use Rattle.runs.specs.Answer.{Answer, found, absent, crowded}
 use Rattle.runs.specs.inner.Search.{search}
-use Rattle.runs.specs.Demand.{Peak, FirstCrowded, Named, Demand}
+use Rattle.runs.specs.Demand.{Peak, FirstCrowded}
+use Rattle.runs.specs.inner.Demand.{Named, Demand}
 use Rattle.runs.proofs.Comparison.{later-asym}
 use Rattle.runs.proofs.Trails.{follow-one}
 use Rattle.runs.proofs.Meets.{search-meets}

@@ -8,7 +8,8 @@ use Rattle.runs.specs.Machine.{Machine}
 use Rattle.runs.specs.Run.{Trail, last, Run}
 use Rattle.runs.specs.Order.{Later}
 use Rattle.runs.specs.Answer.{Answer, found, absent, crowded}
-use Rattle.runs.specs.Demand.{Crowded, Peak, Demand}
+use Rattle.runs.specs.Demand.{Crowded, Peak}
+use Rattle.runs.specs.inner.Demand.{Demand}
 use Rattle.runs.proofs.Comparison.{later-last}
 use Rattle.runs.proofs.Trails.{run-there}
 

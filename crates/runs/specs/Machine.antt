@@ -1,4 +1,4 @@
--- The abstract machine that a search follows, and the range of a search.
+-- The abstract machine that a search follows.
 use mathlib.Core.Bool.{Bool}
 use mathlib.Core.Option.{Option}
 use Prim.Native.Nat.{ℕ}
@@ -18,18 +18,3 @@ pub record Machine : Type 1 where
   pub expired : Config → ℕ → ℕ → Bool
   pub steps : ℕ
   pub events : ℕ
-
--- The range of a search: the same machine with another number of events, so that events from e on are not looked at.
-abbrev pub upto : Machine → ℕ → Machine
-upto M e =
-    record {
-      Config = M .Config;
-      same = M .same;
-      start = M .start;
-      committed = M .committed;
-      final = M .final;
-      fire = M .fire;
-      expired = M .expired;
-      steps = M .steps;
-      events = e;
-    }

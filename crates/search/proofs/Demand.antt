@@ -14,7 +14,8 @@ use Rattle.formula.specs.Formula.{Formula}
 use Rattle.runs.specs.Run.{Trail}
 use Rattle.runs.specs.inner.Search.{search}
 use Rattle.runs.specs.Answer.{Answer, found, absent, crowded}
-use Rattle.runs.specs.Demand as Runs
+use Rattle.runs.specs.Demand.{FirstCrowded}
+use Rattle.runs.specs.inner.Demand as Runs
 use Rattle.runs.proofs.Meets.{search-meets}
 use Rattle.runs.proofs.Unique.{only-one}
 use Rattle.machine.specs.Configuration.{Config}
@@ -64,10 +65,10 @@ module _ (log : Log) (formula : Formula) (P : Premises log formula) (slots start
 
   -- the verdict of an answer, told back
   verdict-crowded : (a : Answer (machine log formula)) (n : ℕ) → Runs.Demand (machine log formula) slots start a
-      → (answerOf log formula a) .verdict ≡ Refused (Crowded n) → Runs.FirstCrowded (machine log formula) slots start n
+      → (answerOf log formula a) .verdict ≡ Refused (Crowded n) → FirstCrowded (machine log formula) slots start n
   verdict-crowded (found c t w) n d e = go (accepting formula c) refl
     where
-      go : (b : Bool) → accepting formula c ≡ b → Runs.FirstCrowded (machine log formula) slots start n
+      go : (b : Bool) → accepting formula c ≡ b → FirstCrowded (machine log formula) slots start n
       go true a = let q = rw a at e in let z : _≡_ {A = ℕ} 0 1 = cc in absurd (omega arith)
       go false a = let q = rw a at e in let z : _≡_ {A = ℕ} 0 1 = cc in absurd (omega arith)
   verdict-crowded (absent w) n d e = let z : _≡_ {A = ℕ} 0 1 = cc in absurd (omega arith)

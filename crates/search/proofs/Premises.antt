@@ -11,7 +11,8 @@ use Rattle.event_log.proofs.Accepted.{accepted-is-encoding}
 use Rattle.formula.specs.Formula.{Formula}
 use Rattle.formula.specs.Read as FormulaRead
 use Rattle.runs.specs.Run.{Trail, Follow}
-use Rattle.machine.specs.Configuration.{Config, start, Valid}
+use Rattle.machine.specs.Configuration.{Config, start}
+use Rattle.machine.specs.inner.Valid.{Valid}
 use Rattle.machine.specs.Machine.{machine}
 use Rattle.machine.proofs.Machine.{Premises, valid-start, valid-fire}
 use Rattle.machine.proofs.Premises.{premises}

@@ -13,7 +13,7 @@ use Rattle.event_log.specs.declared.LogReading.{LogReading}
 use Rattle.event_log.specs.Correct as LogCorrect
 use Rattle.event_log.specs.Encode as LogEncode
 use Rattle.event_log.specs.File.{LogFile, logOf}
-use Rattle.event_log.specs.Event.{Leads}
+use Rattle.event_log.specs.inner.Loading.{Leads}
 use Rattle.event_log.specs.Read as LogRead
 use Rattle.event_log.proofs.Accepted as LogAccepted
 use Rattle.event_log.proofs.Places.{table-leads}

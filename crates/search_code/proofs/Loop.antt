@@ -13,7 +13,7 @@ use Rattle.refusal.specs.declared.Refusal.the-variants.{Crowded as CrowdedAt}
 use Rattle.event_log.specs.declared.Event.{Event}
 use Rattle.event_log.specs.declared.Loaded.{Loaded}
 use Rattle.event_log.specs.Log.{Log}
-use Rattle.event_log.specs.Event.{loadedAt, Leads}
+use Rattle.event_log.specs.inner.Loading.{loadedAt, Leads}
 use Rattle.event_log.specs.Correct.{Recorded}
 use Rattle.event_log.proofs.LastSeen.{latest-is}
 use Rattle.formula.specs.Formula.{Formula}

@@ -11,7 +11,7 @@ use lib.Dec.{eqb}
 use Rattle.refusal.specs.declared.Refusal.the-variants.{Crowded as CrowdedAt}
 use Rattle.event_log.specs.declared.Loaded.{Loaded}
 use Rattle.event_log.specs.Log.{Log}
-use Rattle.event_log.specs.Event.{loadedAt}
+use Rattle.event_log.specs.inner.Loading.{loadedAt}
 use Rattle.formula.specs.Formula.{Formula}
 use Rattle.runs.specs.inner.Search as Runs
 use Rattle.machine.specs.Machine.{machine}

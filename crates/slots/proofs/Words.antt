@@ -6,7 +6,7 @@ use mathlib.Core.List.{List, [], _∷_, _++_, map, append-assoc}
 use native.Mathlib.Omega.{arith}
 use lib.ListN.{length, getD, take, drop, set, length-append, length-map, take-append-drop}
 use lib.Seq.{take-at, drop-drop, drop-append-add, getD-append-add, getD-take, drop-append-le}
-use Rattle.machine.specs.Guard.{bit}
+use Rattle.base.specs.Mask.{bit}
 use Rattle.slots.specs.declared.Thread.{Thread}
 use Rattle.slots.specs.inner.Threads.{Sized}
 use Rattle.slots.specs.inner.Words.{isSet, wordsOf, threadOf, put}

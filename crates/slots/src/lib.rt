@@ -8,8 +8,8 @@ ghost use Prim.Native.Nat.{_+_, _*_, _^_, _≤_, _<_, min};
 ghost use lib.ListN.{length, getD, drop};
 ghost use Rattle.runs.specs.inner.Order.{lex, order};
 ghost use Rattle.base.specs.Lists.{sameList};
+ghost use Rattle.base.specs.Mask.{bit};
 ghost use Rattle.machine.specs.Configuration.{same};
-ghost use Rattle.machine.specs.Guard.{bit};
 ghost use Rattle.machine_code.specs.inner.Bytes.{configOf};
 ghost use Rattle.slots.specs.inner.Threads.{originThread, trailOf, comesAfter, Extended, key, sideOf, greaterOf, position};
 ghost use Rattle.slots.specs.inner.Words.{isSet, wordsOf, threadOf, threadAt, put, place, list, Inserted};
@@ -57,13 +57,6 @@ fn write(part: &mut [u32], at: usize, words: &[u32])
     }
 }
 
-// A flag as a word.
-fn flag_word(held: bool) -> u32
-    ensures { λ r. ⌜ r ≡ bit held ⌝ }
-{
-    if held { 1 } else { 0 }
-}
-
 // Which variables are held, a word each.
 fn flag_words(held: [bool; 8]) -> [u32; 8]
     ensures { λ r. ⌜ r ≡ map bit held ⌝ }
@@ -71,7 +64,7 @@ fn flag_words(held: [bool; 8]) -> [u32; 8]
     let mut words = [0u32; 8];
     let mut i: usize = 0;
     while i < 8 {
-        words[i] = flag_word(held[i]);
+        words[i] = base::bit_of(held[i]);
         i += 1;
     }
     words

@@ -13,7 +13,8 @@ use Rattle.event_log.specs.Log.{Log}
 use Rattle.formula.specs.Formula.{Formula}
 use Rattle.runs.specs.Run.{Trail}
 use Rattle.runs.specs.inner.Search as Runs
-use Rattle.machine.specs.Configuration.{Config, Valid, total}
+use Rattle.machine.specs.Configuration.{Config}
+use Rattle.machine.specs.inner.Valid.{Valid, total}
 use Rattle.machine.specs.Machine.{machine, fireAt}
 use Rattle.machine.proofs.Machine.{valid-fire, weight-fire}
 use Rattle.machine_code.specs.inner.Bytes.{configOf}

@@ -6,9 +6,9 @@ use borrow.Author.Needs.{needs}
 use borrow.Fn.Kinds.{In}
 use borrow.Fn.PlainCycle.{Measures, is, falls, and}
 use lib.ListN.{length, take, drop}
-use Rattle.base.proofs.Lists.{all-bytes}
+use Rattle.base.proofs.Lists.{all-bytes, rest-length}
 use Rattle.expression_reader.specs.inner.Prefix.{joined, whole}
-use Rattle.expression_reader.proofs.Operands.{Going, begun, taken-head, refused-head, refused-operand, operand-within, with-operand, ended, part-length}
+use Rattle.expression_reader.proofs.Operands.{Going, begun, taken-head, refused-head, refused-operand, operand-within, with-operand, ended}
 use Rattle.expression_reader.proofs.read_expr.Reads as read-expr
 use Rattle.expression_reader.proofs.read_expr.Kinds as kinds
 use Rattle.expression_reader.proofs.+read_expr.Lts-read_expr as lts
@@ -87,7 +87,7 @@ module _ (t : ℕ) where
       let u = l .loop .whole .used in
       let m : s .args .depth ≡ t = s .pre .0 in
       let r : s .args .at + length bs < 18446744073709551616 = s .pre .1 .0 in
-      let e : length (take (length bs - u) (drop u bs)) ≡ length bs - u = part-length bs u in
+      let e : length (take (length bs - u) (drop u bs)) ≡ length bs - u = rest-length bs u in
       (omega (arith, m, l .loop .inv .deep), (rw e (omega (arith, l .loop .inv .inside, r)), s .pre .1 .1))
 
   enum-known-operand : lts.Need-enum-known-operand (claims t) (at-depth t) read-expr.Post Inv-loop μ-loop

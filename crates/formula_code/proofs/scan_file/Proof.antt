@@ -1,12 +1,11 @@
 -- `formula_code::scan_file` meets its contract: the loop keeps what was read, with enough fuel for the rest.
 use Prim.Native.Nat.{_≤_, _-_}
-use mathlib.Core.Path.{sym, subst, _∙_, ap}
+use mathlib.Core.Path.{sym, subst}
 use native.Mathlib.Omega.{arith}
 use borrow.Author.Needs.{needs}
 use lib.ListN.{length, length-drop}
-use Rattle.base.proofs.Lists.{all-bytes}
+use Rattle.base.proofs.Lists.{all-bytes, rest-length}
 use Rattle.formula_code.proofs.FileWalk.{SoFar, begin, scanned, taken-facts, taken-on, added-is, most-steps}
-use Rattle.expression_reader.proofs.Operands.{part-rest}
 use Rattle.formula_code.proofs.scan_file.Statement.{statement}
 use Rattle.formula_code.proofs.scan_file.Tie as tie
 
@@ -49,7 +48,7 @@ next-command-requires c κs =
     let l = s .args .l .now in
     let at = q .loop .d .at in
     let i : at ≤ length l = q .loop .inv .inside in
-    let e = ap length (part-rest l at) ∙ length-drop at l in
+    let e = rest-length l at in
     (rw e (omega (arith, i, s .good .0 .0)), q .loop .inv .counted .states)
 
 enum-known-next : tie.Need-enum-known-next Inv-loop μ-loop

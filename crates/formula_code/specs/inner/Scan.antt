@@ -45,17 +45,17 @@ pub record Within (s : Summary) (count : ℕ) : Type 0 where
 
 -- the summary after one more test or bind
 abbrev pub clauseMore : Summary → Summary
-clauseMore s = record { tied = s .tied; states = s .states; last = s .last; steps = s .steps; clauses = s .clauses + 1; guarded = s .guarded }
+clauseMore s = record { tied = s .tied; states = s .states; closed = s .closed; steps = s .steps; clauses = s .clauses + 1; guarded = s .guarded }
 
 -- the summary after one more command
 abbrev pub advanceBy : Summary → Kept → Summary
-advanceBy s (Tied v) = record { tied = s .tied + 1; states = s .states; last = s .last; steps = s .steps; clauses = s .clauses; guarded = s .guarded }
-advanceBy s (State k) = record { tied = s .tied; states = s .states + 1; last = ltb 1 k; steps = 0; clauses = 0; guarded = false }
-advanceBy s (Step t) = record { tied = s .tied; states = s .states; last = s .last; steps = s .steps + 1; clauses = 0; guarded = false }
+advanceBy s (Tied v) = record { tied = s .tied + 1; states = s .states; closed = s .closed; steps = s .steps; clauses = s .clauses; guarded = s .guarded }
+advanceBy s (State k) = record { tied = s .tied; states = s .states + 1; closed = ltb 1 k; steps = 0; clauses = 0; guarded = false }
+advanceBy s (Step t) = record { tied = s .tied; states = s .states; closed = s .closed; steps = s .steps + 1; clauses = 0; guarded = false }
 advanceBy s Test = clauseMore s
 advanceBy s (Testv v) = clauseMore s
 advanceBy s (Bind v) = clauseMore s
-advanceBy s Guard = record { tied = s .tied; states = s .states; last = s .last; steps = s .steps; clauses = s .clauses; guarded = true }
+advanceBy s Guard = record { tied = s .tied; states = s .states; closed = s .closed; steps = s .steps; clauses = s .clauses; guarded = true }
 
 -- after one more command: the kinds of the states
 abbrev pub kindsWith : List ℕ → ℕ → Kept → List ℕ
@@ -169,7 +169,7 @@ unfoldable pub emptyDraft : Draft
 emptyDraft =
     record {
       at = 0;
-      summary = record { tied = 0; states = 0; last = false; steps = 0; clauses = 0; guarded = false };
+      summary = record { tied = 0; states = 0; closed = false; steps = 0; clauses = 0; guarded = false };
       kinds = replicate 16 0;
       table = replicate 128 0;
       ties = replicate 8 false;

@@ -7,7 +7,8 @@ use lib.Dec.{ltb, leb, eqb}
 use Rattle.base.specs.Value.{valueAt}
 use Rattle.guard_code.specs.declared.Evaluated.{Evaluated}
 use Rattle.guard_code.specs.declared.Judged.{Judged}
-use Rattle.machine.specs.Guard.{truth, bit}
+use Rattle.base.specs.Mask.{bit}
+use Rattle.machine.specs.Guard.{truth}
 
 -- "23 ADD .. 27 EQUAL, 28 NOT, 29 AND, 2A OR, 2B IF (condition, then, else)": how many operands a command has
 unfoldable pub operandsOf : ℕ → ℕ

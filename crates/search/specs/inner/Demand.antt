@@ -10,7 +10,8 @@ use Rattle.event_log.specs.Log.{Log}
 use Rattle.formula.specs.Formula.{Formula}
 use Rattle.runs.specs.Run.{Trail}
 use Rattle.runs.specs.Order.{events, numbers}
-use Rattle.runs.specs.Demand as Runs
+use Rattle.runs.specs.Demand.{FirstCrowded}
+use Rattle.runs.specs.inner.Demand as Runs
 use Rattle.machine.specs.Configuration.{Config}
 use Rattle.machine.specs.Firing.{isHeld, valueOf}
 use Rattle.machine.specs.Machine.{machine, accepting}
@@ -47,9 +48,9 @@ module _ (g : Log) (f : Formula) (slots start : ℕ) where
   pub record Demand (s : SearchAnswer) : Type 0 where
     -- "Refusal 11: after some event n from the start on, no run from the start has ended at or before n and more
     -- configurations wait than there are seats; n is the first such event"
-    pub crowded : (n : ℕ) → (s .verdict ≡ Refused (Crowded n)) ↔ Runs.FirstCrowded (machine g f) slots start n
+    pub crowded : (n : ℕ) → (s .verdict ≡ Refused (Crowded n)) ↔ FirstCrowded (machine g f) slots start n
     -- a refusal names file, number and place, and nothing else
-    pub refused : (n : ℕ) → Runs.FirstCrowded (machine g f) slots start n → s ≡ refusal (Crowded n)
+    pub refused : (n : ℕ) → FirstCrowded (machine g f) slots start n → s ≡ refusal (Crowded n)
     -- "Otherwise the search gives accept or reject with the least run"
     pub accept : (s .verdict ≡ Accept) ↔ Names true
     pub reject : (s .verdict ≡ Reject) ↔ Names false

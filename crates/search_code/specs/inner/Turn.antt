@@ -10,7 +10,7 @@ use Rattle.base.specs.Lists.{pad}
 use Rattle.event_log.specs.Log.{Log}
 use Rattle.event_log.specs.declared.Event.{Event}
 use Rattle.event_log.specs.declared.LogReading.{LogReading}
-use Rattle.event_log.specs.Event.{Leads}
+use Rattle.event_log.specs.inner.Loading.{Leads}
 use Rattle.formula.specs.Formula.{Formula}
 use Rattle.formula_code.specs.declared.FormulaReading.{FormulaReading}
 use Rattle.runs.specs.Order.{events, numbers}

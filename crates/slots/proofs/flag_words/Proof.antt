@@ -1,7 +1,7 @@
 -- `slots::flag_words` meets its contract: after i turns the first i flags are words.
 use lib.ListN.{replicate, length, getD, set}
 use mathlib.Core.Bool.{false}
-use Rattle.machine.specs.Guard.{bit}
+use Rattle.base.specs.Mask.{bit}
 use Rattle.slots.proofs.Copying.{copied, copied-more, copied-all}
 use native.Mathlib.Omega.{arith}
 use mathlib.Core.Path.{_≡_, refl, ap, _∙_}
@@ -19,11 +19,11 @@ abbrev μ-loop : tie.MeasureT-loop
 loop-holds : tie.Need-loop-holds Inv-loop μ-loop
 loop-holds c = (omega arith, refl, refl)
 
-array-read-flag-word : tie.Need-array-read-flag-word Inv-loop μ-loop
-array-read-flag-word c = search needs
+array-read-bit-of : tie.Need-array-read-bit-of Inv-loop μ-loop
+array-read-bit-of c = search needs
 
-flag-word-requires : tie.Need-flag-word-requires Inv-loop μ-loop
-flag-word-requires c κs = search needs
+bit-of-requires : tie.Need-bit-of-requires Inv-loop μ-loop
+bit-of-requires c κs = search needs
 
 mul-words : tie.Need-mul-words Inv-loop μ-loop
 mul-words c = search needs
@@ -42,7 +42,7 @@ loop-again c =
     let a = c .before .before .before .args in
     let l = c .before .before .loop in
     let h : length (a .t1) ≡ 8 = search needs in
-    let e : c .flag-word .result ≡ bit (getD (a .t1) (l .i) false) = c .flag-word .ensures in
+    let e : c .bit-of .result ≡ bit (getD (a .t1) (l .i) false) = c .bit-of .ensures .0 in
     let m = copied-more bit (a .t1) (replicate 8 0) (l .words) (l .i) false (omega arith) (omega arith) (l .inv .1) in
     (omega arith, ap (set (l .words) (l .i)) e ∙ m, l .inv .2)
 
@@ -60,8 +60,8 @@ flag-words-spec =
     Inv-loop
     μ-loop
     loop-holds
-    array-read-flag-word
-    flag-word-requires
+    array-read-bit-of
+    bit-of-requires
     mul-words
     array-write-words
     add-i

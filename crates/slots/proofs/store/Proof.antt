@@ -1,5 +1,5 @@
 -- `slots::store` meets its contract: each field stands behind those before it.
-use Rattle.machine.specs.Guard.{bit}
+use Rattle.base.specs.Mask.{bit}
 use native.Mathlib.Omega.{arith}
 use lib.ListN.{length, length-set, length-map}
 use mathlib.Core.Path.{_≡_, ap, _∙_}

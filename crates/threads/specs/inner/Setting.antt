@@ -16,7 +16,7 @@ use Rattle.formula.specs.Lookup.{stepTable}
 use Rattle.machine_code.specs.declared.Configuration.{Configuration}
 use Rattle.machine_code.specs.inner.Bytes.{configOf, fired, lapsed}
 use Rattle.runs.specs.inner.Search as Runs
-use Rattle.machine.specs.Configuration.{Valid, total}
+use Rattle.machine.specs.inner.Valid.{Valid, total}
 use Rattle.machine.specs.Machine.{machine}
 use Rattle.slots.specs.declared.Thread.{Thread}
 use Rattle.slots.specs.inner.Threads.{trailOf}

@@ -39,23 +39,23 @@ returns-2 c = rw (c .before .match .keys2) (c .difference .ensures)
 
 returns-3 : tie.Need-returns-3
 unfolding applied
-returns-3 c = rw (c .before .match .keys3) (c .bit-of .ensures)
+returns-3 c = rw (c .before .match .keys3) (c .bit-of .ensures .0)
 
 returns-4 : tie.Need-returns-4
 unfolding applied
-returns-4 c = rw (c .before .match .keys4) (c .bit-of2 .ensures)
+returns-4 c = rw (c .before .match .keys4) (c .bit-of2 .ensures .0)
 
 returns-5 : tie.Need-returns-5
 unfolding applied
-returns-5 c = rw (c .before .match .keys5) (c .bit-of3 .ensures)
+returns-5 c = rw (c .before .match .keys5) (c .bit-of3 .ensures .0)
 
 returns-6 : tie.Need-returns-6
 unfolding applied
-returns-6 c = rw (c .before .match .keys6) (c .bit-of4 .ensures)
+returns-6 c = rw (c .before .match .keys6) (c .bit-of4 .ensures .0)
 
 returns-7 : tie.Need-returns-7
 unfolding applied
-returns-7 c = rw (c .before .before .match .keys7, lt-ltb _ _ (c .before .if1 .taken)) (c .bit-of5 .ensures)
+returns-7 c = rw (c .before .before .match .keys7, lt-ltb _ _ (c .before .if1 .taken)) (c .bit-of5 .ensures .0)
 
 returns-8 : tie.Need-returns-8
 unfolding applied
@@ -67,7 +67,7 @@ returns-9 c = rw (c .before .match .keys8, lt-ltb _ _ (c .if2 .taken))
 
 returns-10 : tie.Need-returns-10
 unfolding applied
-returns-10 c = rw (c .before .before .match .keys8, le-ltb _ _ (c .before .if2 .left)) (c .bit-of6 .ensures)
+returns-10 c = rw (c .before .before .match .keys8, le-ltb _ _ (c .before .if2 .left)) (c .bit-of6 .ensures .0)
 
 returns-11 : tie.Need-returns-11
 unfolding applied

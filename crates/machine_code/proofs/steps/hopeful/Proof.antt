@@ -68,7 +68,7 @@ returns c =
     let there =
     expires-there (now (a .f)) (now (a .table)) (a .c) (a .rises) (a .latest .values) (i .next) (at .result) (at .ensures)
     (sym (c3 .is-step .ensures) ∙ not-false _ (c2 .if1 .left)) in
-    alive-here (expiresAt (now (a .f)) (now (a .table)) (a .c) (a .rises) (a .latest .values)) (i .next) (c5 .loop-test .taken)
+    alive-here (expiresAt (now (a .f)) (now (a .table)) (a .c) (a .rises) (a .latest .values)) (i .next) (omega (arith, c5 .loop-test .taken))
     (there ∙ sym (c1 .expired .ensures) ∙ not-true _ (c .if2 .taken))
 
 loop-less-2 : tie.Need-loop-less-2 Inv-loop μ-loop

@@ -1,6 +1,6 @@
 -- `threads::hopeful_at` meets its contract: where the scene stands, the code's answer is the machine's.
 use Rattle.machine_code.specs.inner.Bytes.{expiresAt, aliveBelow}
-use Rattle.guard_code.proofs.GuardOnBytes.{rest-drop}
+use Rattle.base.proofs.Lists.{rest-drop}
 use mathlib.Core.List.{List}
 use mathlib.Core.Bool.{Bool}
 use Prim.Native.Nat.{ℕ}
