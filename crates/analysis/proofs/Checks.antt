@@ -10,6 +10,7 @@ use Rattle.event_log.specs.File.{LogFile, logOf}
 use Rattle.event_log.specs.Read as LogRead
 use Rattle.formula.specs.Formula.{Formula}
 use Rattle.formula.specs.Read as FormulaRead
+use Rattle.files.proofs.Reading as Files
 use Rattle.runs.specs.inner.Search.{search}
 use Rattle.machine.specs.Machine.{machine}
 use Rattle.search.specs.Search.{slotsOf}
@@ -19,17 +20,17 @@ use Rattle.analysis.specs.Analysis.{refusal, writtenInto, checked, analy
 module _ (l f : List ℕ) (words : ℕ) (rows : List ℕ) where
   pub bad-log : (why : Refusal) → LogRead.readLog l ≡ LogRead.refused why → analysis l f words rows ≡ refusal why rows
   unfolding analysis
-  bad-log why e = rw e
+  bad-log why e = rw (Files.bad-log l f why e)
 
   module _ (t : LogFile) (log-read : LogRead.readLog l ≡ LogRead.accepted t) where
     pub bad-formula : (why : Refusal) → FormulaRead.readFormula (length (t .fields)) f ≡ FormulaRead.refused why → analysis l f words rows ≡ refusal why rows
     unfolding analysis
-    bad-formula why q = rw (log-read, q)
+    bad-formula why q = rw (Files.bad-formula l f t log-read why q)
 
     module _ (fm : Formula) (formula-read : FormulaRead.readFormula (length (t .fields)) f ≡ FormulaRead.accepted fm) where
       both-read : analysis l f words rows ≡ checked (logOf t) fm words rows
       unfolding analysis
-      both-read = rw (log-read, formula-read)
+      both-read = rw (Files.both-read l f t log-read fm formula-read)
 
       -- 10 for work words, however few row words are lent
       pub short-work : words < 192 → analysis l f words rows ≡ refusal (Short 192) rows

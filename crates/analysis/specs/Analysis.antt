@@ -8,9 +8,8 @@ use Rattle.refusal.specs.declared.Refusal.{Refusal}
 use Rattle.refusal.specs.declared.Refusal.the-variants.{Short, Crowded}
 use Rattle.event_log.specs.Log.{Log}
 use Rattle.event_log.specs.File.{logOf}
-use Rattle.event_log.specs.Read as LogRead
 use Rattle.formula.specs.Formula.{Formula}
-use Rattle.formula.specs.Read as FormulaRead
+use Rattle.files.specs.Files.{Files, accepted, refused, readFiles}
 use Rattle.runs.specs.inner.Search.{search}
 use Rattle.machine.specs.Machine.{machine}
 use Rattle.search.specs.Search.{slotsOf}
@@ -40,14 +39,11 @@ checked g f words rows =
     (cond (ltb (length rows) (12 * length (g .events))) (refusal (Short (12 * length (g .events))) rows)
     (writtenInto (rowsFrom g f (search (machine g f) (slotsOf words)) (length (g .events)) 0 []) rows))
 
-abbrev pub withFormula : Log → FormulaRead.Reading → ℕ → List ℕ → Analysed
-withFormula g (FormulaRead.accepted f) words rows = checked g f words rows
-withFormula g (FormulaRead.refused r) words rows = refusal r rows
-
-abbrev pub withLog : LogRead.Reading → List ℕ → ℕ → List ℕ → Analysed
-withLog (LogRead.accepted t) f words rows = withFormula (logOf t) (FormulaRead.readFormula (length (t .fields)) f) words rows
-withLog (LogRead.refused r) f words rows = refusal r rows
+-- a file is refused, or both are accepted and the call's own checks follow
+abbrev pub answered : Files → ℕ → List ℕ → Analysed
+answered (accepted t f) words rows = checked (logOf t) f words rows
+answered (refused r) words rows = refusal r rows
 
 -- The analysis: from the bytes of the log and the formula, the number of lent work words, the lent row words.
 unfoldable pub analysis : List ℕ → List ℕ → ℕ → List ℕ → Analysed
-analysis l f words rows = withLog (LogRead.readLog l) f words rows
+analysis l f words rows = answered (readFiles l f) words rows

@@ -7,23 +7,15 @@ use native.Mathlib.Omega.{arith}
 use borrow.Author.Tests.{lt-ltb, le-ltb}
 use lib.ListN.{length, getD}
 use lib.Dec.{eqb}
-use Rattle.base.specs.Lists.{Bytes}
 use Rattle.refusal.specs.declared.Refusal.{Refusal}
 use Rattle.refusal.specs.declared.Refusal.the-variants.{Short}
 use Rattle.refusal.specs.declared.Acceptance.the-variants as FileIs
 use Rattle.event_log.specs.Log.{Log}
 use Rattle.event_log.specs.File.{LogFile, logOf}
-use Rattle.event_log.specs.Encode as LogEncode
-use Rattle.event_log.specs.Correct as LogCorrect
 use Rattle.event_log.specs.declared.LogReading.{LogReading}
-use Rattle.event_log.specs.Read as LogRead
-use Rattle.event_log.proofs.Accepted.{accepted-is-encoding}
-use Rattle.event_log.proofs.Answers.{LogTaken, log-refused, log-taken}
 use Rattle.formula.specs.Formula.{Formula}
 use Rattle.formula.specs.Lookup.{isTied, tiedMask}
 use Rattle.formula.proofs.Ties.{mask-bit}
-use Rattle.formula.specs.Read as FormulaRead
-use Rattle.formula.proofs.Reading.{accepted-correct}
 use Rattle.runs.specs.inner.Search.{search}
 use Rattle.machine.specs.Machine.{machine}
 use Rattle.search.specs.Search.{slotsOf}
@@ -31,13 +23,15 @@ use Rattle.analysis.specs.declared.Outcome.{Outcome}
 use Rattle.analysis.specs.declared.Outcome.the-variants.{Refused}
 use Rattle.formula_code.specs.declared.FormulaReading.{FormulaReading}
 use Rattle.formula_code.specs.Answer.{answerOf as formulaAnswer}
-use Rattle.formula_code.proofs.Answers.{FormulaTaken, formula-refused, formula-taken}
 use Rattle.analysis.specs.Rows.{rowsFrom}
-use Rattle.analysis.specs.Analysis.{Analysed, refusal, writtenInto, checked, withFormula, analysis}
+use Rattle.analysis.specs.Analysis.{Analysed, refusal, writtenInto, checked, analysis}
 use Rattle.analysis.specs.Call.{Leaves, Analyses}
 use Rattle.analysis.proofs.Demand.{only-crowded}
-use Rattle.search_code.specs.inner.Checks.{Accepted}
-use Rattle.analysis_code.specs.inner.Starts.{bitsOf, Ties}
+use Rattle.files.specs.Files.{readFiles}
+use Rattle.files_code.specs.declared.FilesReading.{FilesReading}
+use Rattle.files_code.specs.inner.Reading.{Accepted, ReadsFiles}
+use Rattle.files_code.proofs.Answers.{files-refused, files-taken}
+use Rattle.analysis_code.specs.inner.Starts.{bitsOf, Ties, CheckedIs}
 use Rattle.analysis_code.proofs.Ties.{tied-same}
 use Rattle.analysis_code.proofs.Fitting.{tied-exist}
 use Rattle.analysis_code.proofs.Filling.{bits-length, bits-at}
@@ -81,15 +75,6 @@ bit-back false = refl
 tie-at : (fm : Formula) (v : ℕ) → v < 8 → getD (bitsOf 8 (tiedMask fm)) v false ≡ isTied v (fm .tied)
 tie-at fm v h = bits-at 8 v (tiedMask fm) h ∙ rw (mask-bit fm v h) (bit-back (isTied v (fm .tied)))
 
--- the formula is refused
-pub refused-formula : (g : Log) (f work rows : List ℕ) (r : FormulaReading) (why : Refusal) → r ≡ formulaAnswer (FormulaRead.readFormula (length (g .fields)) f)
-    → r .acceptance ≡ FileIs.Refused why
-    → Leaves (withFormula g (FormulaRead.readFormula (length (g .fields)) f) (length work) rows) work work rows (Refused why)
-refused-formula g f work rows r why e h =
-    let x = FormulaRead.readFormula (length (g .fields)) f in
-    let q : x ≡ FormulaRead.refused why = formula-refused x why (ap (λ (a : FormulaReading). a .acceptance) (sym e) ∙ h) in
-    rw q left-alone
-
 -- the reader's mask of tied variables, read back, ties as the formula does
 pub mask-ties : (t : LogFile) (fm : Formula) (l f : List ℕ) (log : LogReading) (r : FormulaReading) (tied : List Bool) → Accepted t fm l log f r
     → tied ≡ bitsOf 8 (r .tied) → Ties fm tied
@@ -98,57 +83,16 @@ mask-ties t fm l f log r tied a marks =
     tied-same (fm .tied) tied (tied-exist (logOf t) fm (a .formula-correct)) (ap length marks ∙ bits-length 8 (r .tied))
     (λ v k. ap (λ bs. getD bs v false) marks ∙ ap (λ (x : FormulaReading). getD (bitsOf 8 (x .tied)) v false) (a .formula-read) ∙ tie-at fm v k)
 
--- the formula is accepted
-module _ (t : LogFile) (l f : List ℕ) (log : LogReading) (r : FormulaReading) (bytes : Bytes f) (read : log ≡ LogRead.answerOf (LogRead.accepted t))
-    (here : l ≡ LogEncode.encode t) (ok : LogCorrect.Correct t)
-    (e : r ≡ formulaAnswer (FormulaRead.readFormula (length (t .fields)) f)) (h : r .acceptance ≡ FileIs.Accepted) where
-  taken : FormulaTaken (FormulaRead.readFormula (length (t .fields)) f)
-  taken = formula-taken (FormulaRead.readFormula (length (t .fields)) f) (ap (λ (a : FormulaReading). a .acceptance) (sym e) ∙ h)
+module _ (l f work rows : List ℕ) (files : FilesReading) (read : ReadsFiles l f files) where
+  -- a file is refused
+  pub by-files : (why : Refusal) → files .acceptance ≡ FileIs.Refused why → Analyses l f work work rows rows (Refused why)
+  unfolding analysis
+  by-files why h = rw (files-refused l f files (readFiles l f) why read h) left-alone
 
-  both : Accepted t (taken .formula) l log f r
-  both =
-      let c = accepted-correct (length (t .fields)) f (taken .formula) bytes (taken .is) in
-      record {
-        log-correct = ok;
-        log-bytes = here;
-        log-read = read;
-        formula-correct = c .1;
-        formula-bytes = c .0;
-        formula-read = e ∙ ap formulaAnswer (taken .is);
-      }
-
-  pub accepted-formula : (work work-after rows rows-after : List ℕ) (o : Outcome)
-      → ((fm : Formula) → Accepted t fm l log f r → Leaves (checked (logOf t) fm (length work) rows) work work-after rows-after o)
-      → Leaves (withFormula (logOf t) (FormulaRead.readFormula (length (t .fields)) f) (length work) rows) work work-after rows-after o
-  accepted-formula work work-after rows rows-after o go = rw (taken .is) (go (taken .formula) both)
-
--- the log is refused
-pub refused-log : (l f work rows : List ℕ) (log : LogReading) (why : Refusal) → LogRead.ReadsLog l log → log .acceptance ≡ FileIs.Refused why
-    → Analyses l f work work rows rows (Refused why)
-unfolding analysis
-refused-log l f work rows log why e h =
-    let q : LogRead.readLog l ≡ LogRead.refused why = log-refused (LogRead.readLog l) why (ap (λ (a : LogReading). a .acceptance) (sym e) ∙ h) in
-    rw q left-alone
-
--- the log is accepted
-module _ (l f : List ℕ) (log : LogReading) (bytes : Bytes l) (e : LogRead.ReadsLog l log) (h : log .acceptance ≡ FileIs.Accepted) where
-  read : LogTaken (LogRead.readLog l)
-  read = log-taken (LogRead.readLog l) (ap (λ (a : LogReading). a .acceptance) (sym e) ∙ h)
-
-  same : log ≡ LogRead.answerOf (LogRead.accepted (read .file))
-  same = e ∙ ap LogRead.answerOf (read .is)
-
-  encoding : (l ≡ LogEncode.encode (read .file)) × LogCorrect.Correct (read .file)
-  encoding = accepted-is-encoding l (read .file) bytes (read .is)
-
-  pub few-events : log .events ≤ 1024
-  unfolding LogRead.answerOf
-  few-events =
-      let q : log .events ≡ length ((logOf (read .file)) .events) = ap (λ (x : LogReading). x .events) same in omega (arith, encoding .1 .recorded .most-events)
-
-  pub accepted-log : (work work-after rows rows-after : List ℕ) (o : Outcome)
-      → ((t : LogFile) → log ≡ LogRead.answerOf (LogRead.accepted t) → l ≡ LogEncode.encode t → LogCorrect.Correct t
-      → Leaves (withFormula (logOf t) (FormulaRead.readFormula (length (t .fields)) f) (length work) rows) work work-after rows-after o)
+  -- both files are accepted
+  pub by-starts : (work-after rows-after : List ℕ) (o : Outcome) → files .acceptance ≡ FileIs.Accepted → CheckedIs l f files work work-after rows rows-after o
       → Analyses l f work work-after rows rows-after o
   unfolding analysis
-  accepted-log work work-after rows rows-after o go = rw (read .is) (go (read .file) same (encoding .0) (encoding .1))
+  by-starts work-after rows-after o h go =
+      let taken = files-taken l f files (readFiles l f) read h in
+      rw (taken .is) (go (taken .file) (taken .formula) (taken .both))

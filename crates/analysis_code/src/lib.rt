@@ -1,7 +1,6 @@
 // The analysis: a row for every event of the log.
 use analysis::Outcome;
-use event_log::LogReading;
-use formula_code::FormulaReading;
+use files_code::FilesReading;
 use refusal::Acceptance;
 use refusal::Refusal;
 use search::SearchAnswer;
@@ -13,7 +12,7 @@ ghost use lib.ListN.{length, getD, take, drop};
 ghost use Rattle.analysis.specs.Rows.{tiedAlike, row, subsumed, verdict};
 ghost use Rattle.analysis.specs.Call.{Analyses};
 ghost use Rattle.analysis_code.specs.inner.Starts.{namedOf, variables, agrees, bitsOf, runIn, runIf, runsIn, runOf, rowBy, isRefused};
-ghost use Rattle.analysis_code.specs.inner.Starts.{OneStart, AllStarts, WithFormula, WithLog};
+ghost use Rattle.analysis_code.specs.inner.Starts.{OneStart, AllStarts, CheckedIs};
 
 // A start's named run, as its row holds it.
 struct RowRun {
@@ -284,25 +283,20 @@ fn all_starts(
     Outcome::Done
 }
 
-// Behind both readers: the checks of the lent words, then every start.
-fn with_formula(
-    l: &[u8],
-    log: LogReading,
-    f: &[u8],
-    formula: FormulaReading,
-    work: &mut [u32],
-    rows: &mut [u32],
-) -> Outcome
-    requires { ⌜ log .events ≤ 1024 ⌝ }
-    ensures { λ r. ⌜ WithFormula (now (l .entry)) log (now (f .entry)) formula (now (work .entry)) (now (work .exit)) (now (rows .entry)) (now (rows .exit)) r ⌝ }
+// A call whose files are accepted: the lent words are checked, then every start is searched.
+fn checked(l: &[u8], f: &[u8], files: FilesReading, work: &mut [u32], rows: &mut [u32]) -> Outcome
+    requires { ⌜ files .log .events ≤ 1024 ⌝ }
+    ensures { λ r. ⌜ CheckedIs (now (l .entry)) (now (f .entry)) files (now (work .entry)) (now (work .exit)) (now (rows .entry)) (now (rows .exit)) r ⌝ }
 {
     if work.len() < 192 {
         return Outcome::Refused(Refusal::Short { needed: 192 });
     }
+    let log = files.log;
     let needed = 12 * log.events;
     if rows.len() < needed {
         return Outcome::Refused(Refusal::Short { needed });
     }
+    let formula = files.formula;
     let places = log.places;
     let table = formula.table;
     let tied = held_in(formula.tied);
@@ -310,27 +304,14 @@ fn with_formula(
     all_starts(l, &places, f, &table, scope, tied, work, rows)
 }
 
-// Behind the log's reader: the formula, then the rest.
-fn with_log(l: &[u8], f: &[u8], log: LogReading, work: &mut [u32], rows: &mut [u32]) -> Outcome
-    requires { ⌜ log .events ≤ 1024 ⌝ }
-    ensures { λ r. ⌜ WithLog (now (l .entry)) (now (f .entry)) log (now (work .entry)) (now (work .exit)) (now (rows .entry)) (now (rows .exit)) r ⌝ }
-{
-    let formula = formula_code::read_formula(f, log.fields);
-    let verdict = formula.acceptance;
-    match verdict {
-        Acceptance::Refused(why) => Outcome::Refused(why),
-        Acceptance::Accepted => with_formula(l, log, f, formula, work, rows),
-    }
-}
-
 // Analyses a log by a formula: a row for every event, exactly as the definition gives them.
 pub fn analyse(l: &[u8], f: &[u8], work: &mut [u32], rows: &mut [u32]) -> Outcome
     ensures { λ r. ⌜ Analyses (now (l .entry)) (now (f .entry)) (now (work .entry)) (now (work .exit)) (now (rows .entry)) (now (rows .exit)) r ⌝ }
 {
-    let log = event_log::read_log(l);
-    let verdict = log.acceptance;
-    match verdict {
+    let files = files_code::read_files(l, f);
+    let acceptance = files.acceptance;
+    match acceptance {
         Acceptance::Refused(why) => Outcome::Refused(why),
-        Acceptance::Accepted => with_log(l, f, log, work, rows),
+        Acceptance::Accepted => checked(l, f, files, work, rows),
     }
 }

@@ -10,6 +10,7 @@ use Rattle.event_log.specs.File.{LogFile, logOf}
 use Rattle.event_log.specs.Read as LogRead
 use Rattle.formula.specs.Formula.{Formula}
 use Rattle.formula.specs.Read as FormulaRead
+use Rattle.files.proofs.Reading as Files
 use Rattle.runs.specs.inner.Search.{search}
 use Rattle.machine.specs.Machine.{machine}
 use Rattle.search.specs.Search.{slotsOf, refusal, answerOf, checked, searchAnswer}
@@ -17,17 +18,17 @@ use Rattle.search.specs.Search.{slotsOf, refusal, answerOf, checked, sea
 module _ (l f : List ℕ) (start words : ℕ) where
   pub bad-log : (why : Refusal) → LogRead.readLog l ≡ LogRead.refused why → searchAnswer l f start words ≡ refusal why
   unfolding searchAnswer
-  bad-log why e = rw e
+  bad-log why e = rw (Files.bad-log l f why e)
 
   module _ (t : LogFile) (log-read : LogRead.readLog l ≡ LogRead.accepted t) where
     pub bad-formula : (why : Refusal) → FormulaRead.readFormula (length (t .fields)) f ≡ FormulaRead.refused why → searchAnswer l f start words ≡ refusal why
     unfolding searchAnswer
-    bad-formula why q = rw (log-read, q)
+    bad-formula why q = rw (Files.bad-formula l f t log-read why q)
 
     module _ (fm : Formula) (formula-read : FormulaRead.readFormula (length (t .fields)) f ≡ FormulaRead.accepted fm) where
       both-read : searchAnswer l f start words ≡ checked (logOf t) fm start words
       unfolding searchAnswer
-      both-read = rw (log-read, formula-read)
+      both-read = rw (Files.both-read l f t log-read fm formula-read)
 
       -- 9, however few words are lent
       pub outside : length ((logOf t) .events) ≤ start → searchAnswer l f start words ≡ refusal (Outside start)

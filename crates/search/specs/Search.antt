@@ -9,9 +9,8 @@ use Rattle.refusal.specs.declared.Refusal.{Refusal}
 use Rattle.refusal.specs.declared.Refusal.the-variants.{Outside, Short, Crowded}
 use Rattle.event_log.specs.Log.{Log}
 use Rattle.event_log.specs.File.{logOf}
-use Rattle.event_log.specs.Read as LogRead
 use Rattle.formula.specs.Formula.{Formula}
-use Rattle.formula.specs.Read as FormulaRead
+use Rattle.files.specs.Files.{Files, accepted, refused, readFiles}
 use Rattle.runs.specs.Order.{events, numbers}
 use Rattle.runs.specs.inner.Search.{search}
 use Rattle.runs.specs.Answer.{Answer, found, absent, crowded}
@@ -55,14 +54,11 @@ checked g f start words =
     (cond (ltb words 192) (refusal (Short 192))
     (answerOf g f (search (machine g f) (slotsOf words) start)))
 
-abbrev pub withFormula : Log → FormulaRead.Reading → ℕ → ℕ → SearchAnswer
-withFormula g (FormulaRead.accepted f) start words = checked g f start words
-withFormula g (FormulaRead.refused r) start words = refusal r
-
-abbrev pub withLog : LogRead.Reading → List ℕ → ℕ → ℕ → SearchAnswer
-withLog (LogRead.accepted t) f start words = withFormula (logOf t) (FormulaRead.readFormula (length (t .fields)) f) start words
-withLog (LogRead.refused r) f start words = refusal r
+-- a file is refused, or both are accepted and the call's own checks follow
+abbrev pub answered : Files → ℕ → ℕ → SearchAnswer
+answered (accepted t f) start words = checked (logOf t) f start words
+answered (refused r) start words = refusal r
 
 -- The search's answer: from the bytes of the log and the formula, the start, the number of lent work words.
 unfoldable pub searchAnswer : List ℕ → List ℕ → ℕ → ℕ → SearchAnswer
-searchAnswer l f start words = withLog (LogRead.readLog l) f start words
+searchAnswer l f start words = answered (readFiles l f) start words

@@ -2,6 +2,7 @@
 use event_log::Event;
 use event_log::Latest;
 use event_log::LogReading;
+use files_code::FilesReading;
 use formula_code::FormulaReading;
 use refusal::Acceptance;
 use refusal::Refusal;
@@ -289,27 +290,21 @@ pub fn scope_of(log: LogReading, formula: FormulaReading, slots: usize) -> Scope
     }
 }
 
-// A call whose log and formula are accepted: the start and the lent words are checked, then the search runs.
-fn checked(
-    l: &[u8],
-    log: LogReading,
-    f: &[u8],
-    formula: FormulaReading,
-    start: usize,
-    work: &mut [u32],
-) -> SearchAnswer
-    requires { ⌜ log .events ≤ 1024 ⌝ }
-    ensures { λ r. ⌜ CheckedIs (now (l .entry)) log (now (f .entry)) formula start (now (work .entry)) (now (work .exit)) r ⌝ }
+// A call whose files are accepted: the start and the lent words are checked, then the search runs.
+fn checked(l: &[u8], f: &[u8], files: FilesReading, start: usize, work: &mut [u32]) -> SearchAnswer
+    requires { ⌜ files .log .events ≤ 1024 ⌝ }
+    ensures { λ r. ⌜ CheckedIs (now (l .entry)) (now (f .entry)) files start (now (work .entry)) (now (work .exit)) r ⌝ }
     ensures { λ r. ⌜ (length (now (work .exit)) ≡ length (now (work .entry))) × (r .width ≤ slotsOf (length (now (work .entry)))) ⌝ }
 {
-    let events = log.events;
-    if events <= start {
+    let log = files.log;
+    if log.events <= start {
         return refused(Refusal::Outside { start });
     }
     let words = work.len();
     if words < 192 {
         return refused(Refusal::Short { needed: 192 });
     }
+    let formula = files.formula;
     let places = log.places;
     let table = formula.table;
     let scope = scope_of(log, formula, slots_of(words));
@@ -320,15 +315,10 @@ fn checked(
 pub fn search(l: &[u8], f: &[u8], start: usize, work: &mut [u32]) -> SearchAnswer
     ensures { λ r. ⌜ Searched (now (l .entry)) (now (f .entry)) start (now (work .entry)) (now (work .exit)) r ⌝ }
 {
-    let log = event_log::read_log(l);
-    let log_verdict = log.acceptance;
-    let Acceptance::Accepted = log_verdict else {
-        return refused(refusal_of(log_verdict));
+    let files = files_code::read_files(l, f);
+    let acceptance = files.acceptance;
+    let Acceptance::Accepted = acceptance else {
+        return refused(refusal::refusal_of(acceptance));
     };
-    let formula = formula_code::read_formula(f, log.fields);
-    let formula_verdict = formula.acceptance;
-    let Acceptance::Accepted = formula_verdict else {
-        return refused(refusal_of(formula_verdict));
-    };
-    checked(l, log, f, formula, start, work)
+    checked(l, f, files, start, work)
 }

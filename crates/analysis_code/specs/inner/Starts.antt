@@ -7,13 +7,8 @@ use lib.ListN.{length, getD, take, drop}
 use lib.Dec.{eqb}
 use Rattle.refusal.specs.declared.Refusal.the-variants.{Crowded}
 use Rattle.event_log.specs.Log.{Log}
-use Rattle.event_log.specs.Encode as LogEncode
 use Rattle.event_log.specs.File.{LogFile, logOf}
-use Rattle.event_log.specs.Correct as LogCorrect
-use Rattle.event_log.specs.declared.LogReading.{LogReading}
-use Rattle.event_log.specs.Read as LogRead
 use Rattle.formula.specs.Formula.{Formula}
-use Rattle.formula.specs.Read as FormulaRead
 use Rattle.runs.specs.inner.Search.{search}
 use Rattle.runs.specs.Answer.{Answer, found, absent, crowded}
 use Rattle.machine.specs.Machine.{machine}
@@ -22,15 +17,15 @@ use Rattle.search.specs.declared.Verdict.{Verdict}
 use Rattle.search.specs.declared.Verdict.the-variants.{Refused, Absent, Accept, Reject}
 use Rattle.search.specs.declared.SearchAnswer.{SearchAnswer}
 use Rattle.search.specs.Search.{answerOf}
-use Rattle.formula_code.specs.declared.FormulaReading.{FormulaReading}
+use Rattle.files_code.specs.declared.FilesReading.{FilesReading}
+use Rattle.files_code.specs.inner.Reading.{Accepted}
 use Rattle.search_code.specs.declared.Scope.{Scope}
 use Rattle.search_code.specs.inner.Turn.{Given}
-use Rattle.search_code.specs.inner.Checks.{Accepted}
 use Rattle.analysis_code.specs.declared.RowRun.{RowRun}
 use Rattle.analysis.specs.declared.Outcome.{Outcome}
 use Rattle.analysis.specs.declared.Outcome.the-variants.{Done, Refused as RefusedOutcome}
 use Rattle.analysis.specs.Rows.{NamedRun, named, alike, tiedAlike, verdict, noneRow, row, Written, all, upto, rowsFrom}
-use Rattle.analysis.specs.Analysis.{Analysed, writtenInto, checked, withFormula}
+use Rattle.analysis.specs.Analysis.{Analysed, writtenInto, checked}
 use Rattle.analysis.specs.Call.{Leaves}
 
 -- the struct of a named run, as the definition has it
@@ -129,12 +124,8 @@ AllStarts l places f table scope tied before after r =
     → _≡_ {A = Analysed} (record { outcome = r; rows = after })
     (writtenInto (rowsFrom g fm (search (machine g fm) (scope .slots)) (length (g .events)) 0 []) before)
 
--- what is left behind the formula's reader, and behind the log's
-abbrev pub WithFormula : List ℕ → LogReading → List ℕ → FormulaReading → List ℕ → List ℕ → List ℕ → List ℕ → Outcome → Type 0
-WithFormula l log f formula work work-after rows rows-after r =
-    (t : LogFile) (fm : Formula) → Accepted t fm l log f formula → Leaves (checked (logOf t) fm (length work) rows) work work-after rows-after r
-
-abbrev pub WithLog : List ℕ → List ℕ → LogReading → List ℕ → List ℕ → List ℕ → List ℕ → Outcome → Type 0
-WithLog l f log work work-after rows rows-after r =
-    (t : LogFile) → log ≡ LogRead.answerOf (LogRead.accepted t) → l ≡ LogEncode.encode t → LogCorrect.Correct t
-    → Leaves (withFormula (logOf t) (FormulaRead.readFormula (length (t .fields)) f) (length work) rows) work work-after rows-after r
+-- a call whose files are accepted
+abbrev pub CheckedIs : List ℕ → List ℕ → FilesReading → List ℕ → List ℕ → List ℕ → List ℕ → Outcome → Type 0
+CheckedIs l f files work work-after rows rows-after r =
+    (t : LogFile) (fm : Formula) → Accepted t fm l (files .log) f (files .formula)
+    → Leaves (checked (logOf t) fm (length work) rows) work work-after rows-after r

@@ -13,9 +13,9 @@ refused-requires c κs = search needs
 
 returns : tie.Need-returns
 returns c =
-    let c5 = c .before .before .before .before .before in
-    let a = c5 .args in (
-      outside (now (a .l)) (now (a .f)) (a .log) (a .formula) (a .start) (now (a .work)) (c .refused .result) (c .before .if1 .taken) (c .refused .ensures),
+    let c7 = c .before .before .before .before .before .before .before in
+    let a = c7 .args in (
+      outside (now (a .l)) (now (a .f)) (a .files) (a .start) (now (a .work)) (c .refused .result) (c .before .if1 .taken) (c .refused .ensures),
       (refl, rw (c .refused .ensures) (omega arith)),
     )
 
@@ -25,9 +25,9 @@ refused-requires-2 c κs = search needs
 returns-2 : tie.Need-returns-2
 returns-2 c =
     let c2 = c .before .before in
-    let c6 = c2 .before .before .before .before in
-    let a = c6 .args in (
-      too-short (now (a .l)) (now (a .f)) (a .log) (a .formula) (a .start) (now (a .work)) (c .refused2 .result) (c2 .if1 .left)
+    let c8 = c2 .before .before .before .before .before .before in
+    let a = c8 .args in (
+      too-short (now (a .l)) (now (a .f)) (a .files) (a .start) (now (a .work)) (c .refused2 .result) (c2 .if1 .left)
           (c .before .if2 .taken) (c .refused2 .ensures),
       (refl, rw (c .refused2 .ensures) (omega arith)),
     )
@@ -42,10 +42,10 @@ search-from-requires : tie.Need-search-from-requires
 search-from-requires c κs =
     let c3 = c .before .before .before in
     let c4 = c3 .before in
-    let c7 = c4 .before .before .before in
-    let c12 = c7 .before .before .before .before .before in
-    let k = slots-fit (length (now (c12 .args .work))) (c7 .if2 .left) in
-    rw (c3 .scope-of .ensures, c4 .slots-of .ensures) (k .0, k .1, c12 .pre)
+    let c8 = c4 .before .before .before .before in
+    let c15 = c8 .before .before .before .before .before .before .before in
+    let k = slots-fit (length (now (c15 .args .work))) (c8 .if2 .left) in
+    rw (c3 .scope-of .ensures, c4 .slots-of .ensures) (k .0, k .1, c15 .pre)
 
 same-length : tie.Need-same-length
 same-length c = search needs
@@ -55,14 +55,14 @@ returns-3 c =
     let c2 = c .before .before in
     let c6 = c2 .before .before .before .before in
     let c7 = c6 .before in
-    let c10 = c7 .before .before .before in
-    let c11 = c10 .before in
-    let c15 = c11 .before .before .before .before in
-    let a = c15 .args in
+    let c11 = c7 .before .before .before .before in
+    let c12 = c11 .before in
+    let c18 = c12 .before .before .before .before .before .before in
+    let a = c18 .args in
     let n = c7 .slots-of in
     let s = c6 .scope-of in
     let r = c2 .search-from in (
-      searched (now (a .l)) (now (a .f)) (a .log) (a .formula) (a .start) (now (a .work)) (n .result) _ (r .result) (c11 .if1 .left) (c10 .if2 .left)
+      searched (now (a .l)) (now (a .f)) (a .files) (a .start) (now (a .work)) (n .result) _ (r .result) (c12 .if1 .left) (c11 .if2 .left)
           (n .ensures) (rw (s .ensures) at (r .ensures .0)),
       (r .ensures .1 .1, rw (← n .ensures) (rw (s .ensures) at (r .ensures .1 .0))),
     )

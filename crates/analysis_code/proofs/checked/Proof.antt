@@ -1,4 +1,4 @@
--- `analysis_code::with_formula` meets its contract: 10 for work words, 10 for rows, then every start.
+-- `analysis_code::checked` meets its contract: 10 for work words, 10 for rows, then every start.
 use lib.ListN.{length}
 use mathlib.Core.Path.{ap}
 use Rattle.event_log.specs.File.{logOf}
@@ -8,8 +8,8 @@ use Rattle.search_code.proofs.Calls.{slots-fit, handed}
 use Rattle.analysis_code.proofs.Calls.{short-work, short-rows, enough, mask-ties}
 use denote.Ref.{now}
 use borrow.Author.Needs.{needs}
-use Rattle.analysis_code.proofs.with_formula.Statement.{statement}
-use Rattle.analysis_code.proofs.with_formula.Tie as tie
+use Rattle.analysis_code.proofs.checked.Statement.{statement}
+use Rattle.analysis_code.proofs.checked.Tie as tie
 
 returns : tie.Need-returns
 returns c =
@@ -23,10 +23,10 @@ mul-needed c = search needs
 returns-2 : tie.Need-returns-2
 unfolding answerOf
 returns-2 c =
-    let c2 = c .before .before in
-    let c7 = c2 .before .before .before .before .before in
-    let a = c7 .args in
-    λ t fm x. short-rows (logOf t) fm (now (a .work)) (now (a .rows)) (a .log .events) (ap (λ (y : LogReading). y .events) (x .log-read)) (c2 .if1 .left)
+    let c3 = c .before .before .before in
+    let c8 = c3 .before .before .before .before .before in
+    let a = c8 .args in
+    λ t fm x. short-rows (logOf t) fm (now (a .work)) (now (a .rows)) (a .files .log .events) (ap (λ (y : LogReading). y .events) (x .log-read)) (c3 .if1 .left)
     (c .if2 .taken)
 
 held-in-requires : tie.Need-held-in-requires
@@ -42,11 +42,11 @@ all-starts-requires : tie.Need-all-starts-requires
 all-starts-requires c κs =
     let c4 = c .before .before .before .before in
     let c5 = c4 .before in
-    let c9 = c5 .before .before .before .before in
-    let c11 = c9 .before .before in
-    let c16 = c11 .before .before .before .before .before in
-    let s = slots-fit (length (now (c16 .args .work))) (c11 .if1 .left) in
-    rw (c4 .scope-of .ensures, c5 .slots-of .ensures) (s .0, s .1, c16 .pre, c9 .if2 .left)
+    let c10 = c5 .before .before .before .before .before in
+    let c13 = c10 .before .before .before in
+    let c18 = c13 .before .before .before .before .before in
+    let s = slots-fit (length (now (c18 .args .work))) (c13 .if1 .left) in
+    rw (c4 .scope-of .ensures, c5 .slots-of .ensures) (s .0, s .1, c18 .pre, c10 .if2 .left)
 
 same-length : tie.Need-same-length
 same-length c = search needs
@@ -62,19 +62,19 @@ returns-3 c =
     let c9 = c4 .before .before .before .before .before in
     let c10 = c9 .before in
     let c11 = c10 .before in
-    let c14 = c11 .before .before .before in
-    let c16 = c14 .before .before in
-    let c21 = c16 .before .before .before .before .before in
-    let a = c21 .args in
+    let c15 = c11 .before .before .before .before in
+    let c18 = c15 .before .before .before in
+    let c23 = c18 .before .before .before .before .before in
+    let a = c23 .args in
     let n = c10 .slots-of in
     let all = rw (c9 .scope-of .ensures) at (c4 .all-starts .ensures) in
-    λ t fm x. enough (logOf t) fm (now (a .work)) (now (a .rows)) (a .log .events) (n .result) _ _ _ (ap (λ (y : LogReading). y .events) (x .log-read))
-    (c16 .if1 .left) (c14 .if2 .left) (n .ensures) (c3 .work .given)
-    (all (logOf t) fm (handed t fm (now (a .l)) (now (a .f)) (a .log) (a .formula) (n .result) x)
-    (mask-ties t fm (now (a .l)) (now (a .f)) (a .log) (a .formula) (c11 .held-in .result) x (c11 .held-in .ensures)))
+    λ t fm x. enough (logOf t) fm (now (a .work)) (now (a .rows)) (a .files .log .events) (n .result) _ _ _ (ap (λ (y : LogReading). y .events) (x .log-read))
+    (c18 .if1 .left) (c15 .if2 .left) (n .ensures) (c3 .work .given)
+    (all (logOf t) fm (handed t fm (now (a .l)) (now (a .f)) (a .files .log) (a .files .formula) (n .result) x)
+    (mask-ties t fm (now (a .l)) (now (a .f)) (a .files .log) (a .files .formula) (c11 .held-in .result) x (c11 .held-in .ensures)))
 
-pub with-formula-spec : {M : Type 1} → statement M
-with-formula-spec =
+pub checked-spec : {M : Type 1} → statement M
+checked-spec =
     tie.close
     (tie.spec
     returns

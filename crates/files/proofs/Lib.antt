@@ -1,0 +1,2 @@
+-- What reading two files says of each of them.
+pub mod Reading

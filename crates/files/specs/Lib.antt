@@ -1,0 +1,2 @@
+-- Definitions of the two files of a call.
+pub mod Files

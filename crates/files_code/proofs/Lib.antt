@@ -1,0 +1,2 @@
+-- What an answer for two files says of them.
+pub mod Answers

@@ -1,0 +1,2 @@
+-- Vocabulary of the contracts of reading two files.
+pub mod inner
