@@ -7,10 +7,8 @@ use lib.ListN.{length}
 use Rattle.refusal.specs.declared.Refusal.{Refusal}
 use Rattle.refusal.specs.declared.Refusal.the-variants.{Short}
 use Rattle.event_log.specs.File.{LogFile, logOf}
-use Rattle.event_log.specs.Read as LogRead
 use Rattle.formula.specs.Formula.{Formula}
-use Rattle.formula.specs.Read as FormulaRead
-use Rattle.files.proofs.Reading as Files
+use Rattle.files.specs.Files.{accepted, refused, readFiles}
 use Rattle.runs.specs.inner.Search.{search}
 use Rattle.machine.specs.Machine.{machine}
 use Rattle.search.specs.Search.{slotsOf}
@@ -18,33 +16,28 @@ use Rattle.analysis.specs.Rows.{rowsFrom}
 use Rattle.analysis.specs.Analysis.{refusal, writtenInto, checked, analysis}
 
 module _ (l f : List ℕ) (words : ℕ) (rows : List ℕ) where
-  pub bad-log : (why : Refusal) → LogRead.readLog l ≡ LogRead.refused why → analysis l f words rows ≡ refusal why rows
+  pub bad-file : (why : Refusal) → readFiles l f ≡ refused why → analysis l f words rows ≡ refusal why rows
   unfolding analysis
-  bad-log why e = rw (Files.bad-log l f why e)
+  bad-file why e = rw e
 
-  module _ (t : LogFile) (log-read : LogRead.readLog l ≡ LogRead.accepted t) where
-    pub bad-formula : (why : Refusal) → FormulaRead.readFormula (length (t .fields)) f ≡ FormulaRead.refused why → analysis l f words rows ≡ refusal why rows
+  module _ (t : LogFile) (fm : Formula) (read : readFiles l f ≡ accepted t fm) where
+    both-read : analysis l f words rows ≡ checked (logOf t) fm words rows
     unfolding analysis
-    bad-formula why q = rw (Files.bad-formula l f t log-read why q)
+    both-read = rw read
 
-    module _ (fm : Formula) (formula-read : FormulaRead.readFormula (length (t .fields)) f ≡ FormulaRead.accepted fm) where
-      both-read : analysis l f words rows ≡ checked (logOf t) fm words rows
-      unfolding analysis
-      both-read = rw (Files.both-read l f t log-read fm formula-read)
+    -- 10 for work words, however few row words are lent
+    pub short-work : words < 192 → analysis l f words rows ≡ refusal (Short 192) rows
+    unfolding checked
+    short-work h = both-read ∙ rw (lt-ltb words 192 h)
 
-      -- 10 for work words, however few row words are lent
-      pub short-work : words < 192 → analysis l f words rows ≡ refusal (Short 192) rows
-      unfolding checked
-      short-work h = both-read ∙ rw (lt-ltb words 192 h)
+    -- 10 for rows, where the work words are enough
+    pub short-rows : 192 ≤ words → length rows < 12 * length ((logOf t) .events)
+        → analysis l f words rows ≡ refusal (Short (12 * length ((logOf t) .events))) rows
+    unfolding checked
+    short-rows h k = both-read ∙ rw (le-ltb words 192 h, lt-ltb (length rows) (12 * length ((logOf t) .events)) k)
 
-      -- 10 for rows, where the work words are enough
-      pub short-rows : 192 ≤ words → length rows < 12 * length ((logOf t) .events)
-          → analysis l f words rows ≡ refusal (Short (12 * length ((logOf t) .events))) rows
-      unfolding checked
-      short-rows h k = both-read ∙ rw (le-ltb words 192 h, lt-ltb (length rows) (12 * length ((logOf t) .events)) k)
-
-      -- then the starts are searched
-      pub analysed : 192 ≤ words → 12 * length ((logOf t) .events) ≤ length rows
-          → analysis l f words rows ≡ writtenInto (rowsFrom (logOf t) fm (search (machine (logOf t) fm) (slotsOf words)) (length ((logOf t) .events)) 0 []) rows
-      unfolding checked
-      analysed h k = both-read ∙ rw (le-ltb words 192 h, le-ltb (length rows) (12 * length ((logOf t) .events)) k)
+    -- then the starts are searched
+    pub analysed : 192 ≤ words → 12 * length ((logOf t) .events) ≤ length rows
+        → analysis l f words rows ≡ writtenInto (rowsFrom (logOf t) fm (search (machine (logOf t) fm) (slotsOf words)) (length ((logOf t) .events)) 0 []) rows
+    unfolding checked
+    analysed h k = both-read ∙ rw (le-ltb words 192 h, le-ltb (length rows) (12 * length ((logOf t) .events)) k)

@@ -304,7 +304,7 @@ pub analysis-runs : (l f : List ℕ) (log : Log) (formula : Formula) (words : �
 analysis-runs l f log formula words lent a h k =
     subst (λ (g : Log). 12 * length (g .events) ≤ length lent → analysis l f words lent
     ≡ writtenInto (rowsFrom g formula (search (machine g formula) (slotsOf words)) (length (g .events)) 0 []) lent) (sym (a .records))
-    (λ i. analysed l f words lent (a .file) (a .log-read) formula (a .formula-read) h i) k
+    (λ i. analysed l f words lent (a .file) formula (a .read) h i) k
 
 -- The third demand on an analysis.
 pub third-demand : (l f : List ℕ) (log : Log) (formula : Formula) (words : ℕ) (lent : List ℕ) → Accepted l f log formula → 192 ≤ words

@@ -17,6 +17,7 @@ use Rattle.formula_code.specs.Answer.{answerOf as formulaAnswer, ReadsFormula}
 use Rattle.search.specs.declared.SearchAnswer.{SearchAnswer}
 use Rattle.search.specs.Search.{slotsOf}
 use Rattle.search.specs.Call.{Searched}
+use Rattle.files.proofs.Reading.{both-read}
 use Rattle.search.proofs.Premises.{Accepted}
 use Rattle.analysis.specs.declared.Outcome.{Outcome}
 use Rattle.analysis.specs.Call.{Analyses}
@@ -70,8 +71,9 @@ module _ (l f : List ℕ) (bytes : Bytes l) (more : Bytes f) where
           formula-bytes = more;
           file = t;
           records = refl;
-          log-read = rw (log .encoded) (encoding-is-accepted t (log .correct));
-          formula-read = rw (formula .encoded) (correct-accepted (length (t .fields)) fm (formula .correct));
+          read =
+              both-read l f t (rw (log .encoded) (encoding-is-accepted t (log .correct))) fm
+              (rw (formula .encoded) (correct-accepted (length (t .fields)) fm (formula .correct)));
         }
 
     -- a search at any event of the log

@@ -35,7 +35,7 @@ pub search-runs : (l f : List ℕ) (log : Log) (formula : Formula) (start words 
 search-runs l f log formula start words a h k =
     subst (λ (g : Log). start < length (g .events) → searchAnswer l f start words ≡ answerOf g formula (search (machine g formula) (slotsOf words) start))
     (sym (a .records))
-    (λ i. searched l f start words (a .file) (a .log-read) formula (a .formula-read) i k) h
+    (λ i. searched l f start words (a .file) formula (a .read) i k) h
 
 -- a search that runs is refused with nothing but crowded
 pub only-crowded : (g : Log) (fm : Formula) (a : Answer (machine g fm)) (why : Refusal) → answerOf g fm a .verdict ≡ Refused why → NotCrowded why → ⊥

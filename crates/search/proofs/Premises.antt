@@ -6,17 +6,15 @@ use lib.ListN.{length}
 use Rattle.base.specs.Lists.{Bytes}
 use Rattle.event_log.specs.Log.{Log}
 use Rattle.event_log.specs.File.{LogFile, logOf}
-use Rattle.event_log.specs.Read as LogRead
-use Rattle.event_log.proofs.Accepted.{accepted-is-encoding}
 use Rattle.formula.specs.Formula.{Formula}
-use Rattle.formula.specs.Read as FormulaRead
+use Rattle.files.specs.Files.{accepted, readFiles}
+use Rattle.files.proofs.Reading.{files-correct}
 use Rattle.runs.specs.Run.{Trail, Follow}
 use Rattle.machine.specs.Configuration.{Config, start}
 use Rattle.machine.specs.inner.Valid.{Valid}
 use Rattle.machine.specs.Machine.{machine}
 use Rattle.machine.proofs.Machine.{Premises, valid-start, valid-fire}
 use Rattle.machine.proofs.Premises.{premises}
-use Rattle.formula.proofs.Reading.{accepted-correct}
 
 -- two files that are accepted, as a file that records the log and a formula
 pub record Accepted (l f : List ℕ) (log : Log) (formula : Formula) : Type 0 where
@@ -24,16 +22,15 @@ pub record Accepted (l f : List ℕ) (log : Log) (formula : Formula) : Type 0 wh
   pub formula-bytes : Bytes f
   pub file : LogFile
   pub records : log ≡ logOf file
-  pub log-read : LogRead.readLog l ≡ LogRead.accepted file
-  pub formula-read : FormulaRead.readFormula (length (file .fields)) f ≡ FormulaRead.accepted formula
+  pub read : readFiles l f ≡ accepted file formula
 
 -- accepted files give what the laws need
 pub accepted-premises : (l f : List ℕ) (log : Log) (formula : Formula) → Accepted l f log formula → Premises log formula
 accepted-premises l f log formula a =
     let t = a .file in
-    let ok = accepted-is-encoding l t (a .log-bytes) (a .log-read) .1 in
+    let ok = files-correct l f (a .log-bytes) (a .formula-bytes) t formula (a .read) in
     subst (λ (g : Log). Premises g formula) (sym (a .records))
-    (premises (logOf t) formula (ok .recorded) (accepted-correct (length (t .fields)) f formula (a .formula-bytes) (a .formula-read) .1))
+    (premises (logOf t) formula (ok .0 .recorded) (ok .1))
 
 module _ (log : Log) (formula : Formula) (P : Premises log formula) where
   -- what a trail leads to is valid
