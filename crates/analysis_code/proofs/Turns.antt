@@ -71,7 +71,8 @@ module _ (g : Log) (fm : Formula) where
 
     -- otherwise: the row is written
     pub turn-written : (tied : List Bool) (a : Answer (machine g fm)) (r : SearchAnswer) (after : List ℕ) → Fitting g fm a
-        → Ties fm tied → r ≡ answerOf g fm a → isRefused (r .verdict) ≡ false → after ≡ put rows (start * 12) (rowBy (variables tied) start (runsIn start rows) r (r .verdict))
+        → Ties fm tied → r ≡ answerOf g fm a → isRefused (r .verdict) ≡ false
+        → after ≡ put rows (start * 12) (rowBy (variables tied) start (runsIn start rows) r (r .verdict))
         → _≡_ {A = Turn} (record { written = true; rows = after }) (turnOf g fm start rows a)
     turn-written tied (found c t width) r after fit same e h p =
         let q = answer-row (variables tied) start (runsIn start rows) c t width (fit .short) in

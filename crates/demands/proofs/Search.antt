@@ -22,7 +22,6 @@ use Rattle.runs.proofs.Meets.{count-one}
 use Rattle.runs.proofs.Counts.{some-count}
 use Rattle.runs.proofs.Unique.{only-one}
 use Rattle.runs.proofs.Within.{peak-within}
-use Rattle.machine.specs.Configuration.{Config}
 use Rattle.machine.specs.Machine.{machine, accepting}
 use Rattle.machine.proofs.Machine.{Premises, laws}
 use Rattle.search.specs.declared.Verdict.{Verdict}
@@ -31,7 +30,7 @@ use Rattle.search.specs.declared.SearchAnswer.{SearchAnswer}
 use Rattle.search.specs.Search.{slotsOf, answerOf, searchAnswer}
 use Rattle.search.proofs.Premises.{Accepted, accepted-premises, ends-valid}
 use Rattle.search.proofs.Demand.{search-runs, met}
-use Rattle.demands.specs.Demands.{SaysCrowded, SomeCrowded, Counted, ThirdOfSearch, SecondOfSearch}
+use Rattle.demands.specs.Demands.{SomeCrowded, Counted, ThirdOfSearch, SecondOfSearch}
 
 -- an answer that names no run names no event
 pub unnamed : (start : ℕ) (s : SearchAnswer) → s .steps ≡ 0 → SecondOfSearch start s

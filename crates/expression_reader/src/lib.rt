@@ -201,7 +201,8 @@ fn expr_head(
     head_of(t, part, at, left - 1, state, own, places)
 }
 
-// An expression in prefix order from `at` on, where the part begins: its command, then its operands, each at most one level less deep. Its VARs and COUNTs are noted.
+// An expression in prefix order from `at` on, where the part begins: its command, then its operands, each at most one level less
+// deep. Its VARs and COUNTs are noted.
 pub fn read_expr(
     part: &[u8],
     at: usize,

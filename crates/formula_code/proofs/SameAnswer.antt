@@ -225,7 +225,8 @@ module _ (fields : ℕ) (l : List ℕ) (w : Whole fields l (suc (length l)) star
 
 module _ (fields : ℕ) (l : List ℕ) (bytes : Bytes l) where
   -- a refused walk
-  pub answer-refused : (scan : Scan) (r : Refusal) → Scanned fields l scan → scan .acceptance ≡ Refused r → answerOf (refused r) ≡ answerOf (readFormula fields l)
+  pub answer-refused : (scan : Scan) (r : Refusal) → Scanned fields l scan → scan .acceptance ≡ Refused r
+      → answerOf (refused r) ≡ answerOf (readFormula fields l)
   answer-refused scan r h e = sym (ap answerOf (refused-so fields l bytes r (ap (λ (x : Scan). x .acceptance) (sym (h .is)) ∙ e)))
 
   -- the draft of a walk that reached END

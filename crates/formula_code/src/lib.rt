@@ -29,7 +29,9 @@ ghost use Rattle.formula_code.specs.Answer.{answerOf, ReadsFormula};
 ghost use Rattle.formula_code.specs.inner.Judge.{acceptedWith, judgedWith};
 ghost use Rattle.formula_code.specs.inner.Scan.{emptyDraft, stopped, finishedWith, Scanned};
 
-// Whether a formula is accepted, and of an accepted one its number of states, their kinds (0 ordinary, 1 committed, 2 accept, 3 reject), where its steps begin (step k of state s at s * 8 + k, 0 where there is none) and the mask of its tied variables (bit v set where variable v is tied).
+// Whether a formula is accepted, and of an accepted one its number of states, their kinds (0 ordinary, 1 committed, 2 accept,
+// 3 reject), where its steps begin (step k of state s at s * 8 + k, 0 where there is none) and the mask of its tied variables (bit v
+// set where variable v is tied).
 pub struct FormulaReading {
     pub acceptance: Acceptance,
     pub states: usize,

@@ -20,7 +20,6 @@ use Rattle.formula.specs.Formula.{Formula}
 use Rattle.runs.specs.Machine.{Machine}
 use Rattle.runs.specs.inner.Search.{endings, least, leastFrom, next, origin, search}
 use Rattle.runs.specs.Answer.{found, absent}
-use Rattle.runs.specs.inner.Search as Runs
 use Rattle.runs.specs.inner.Lists.{keep, gather}
 use Rattle.runs.specs.inner.Threads.{candidates, insertWithin, follow, threads}
 use Rattle.runs.specs.Order.{events, numbers}

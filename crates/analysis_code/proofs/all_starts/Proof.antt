@@ -72,7 +72,8 @@ loop-again c =
           let x = Runs.search (machine g fm) (a .scope .slots) (i .start) in
           let fits = given-fits g fm (now (a .l)) (now (a .places)) (now (a .f)) (now (a .table)) (a .scope) given (i .start) h in
           let turn = turn-as (one .result) true _ _ (c .if2 .taken) (one .ensures g fm x (c7 .search-from .ensures .0 g fm given h) fits ties) in
-          so-far-next g fm (a .scope .slots) (now (a .rows)) (i .rows) (i .start) (omega (arith, given .events-are, h)) (i .inv .3 g fm given ties) _ fits k turn,
+          so-far-next g fm (a .scope .slots) (now (a .rows)) (i .rows) (i .start) (omega (arith, given .events-are, h)) (i .inv .3 g fm given ties) _ fits k
+          turn,
     )
 
 same-length : tie.Need-same-length Inv-loop μ-loop
