@@ -15,7 +15,7 @@ returns : tie.Need-returns
 returns c =
     let c7 = c .before .before .before .before .before .before .before in
     let a = c7 .args in (
-      outside (now (a .l)) (now (a .f)) (a .files) (a .start) (now (a .work)) (c .refused .result) (c .before .if1 .taken) (c .refused .ensures),
+      outside (now (a .l)) (now (a .f)) (a .files) (a .start) (now (a .work)) (c .refused .result) (omega (arith, c .before .if1 .taken)) (c .refused .ensures),
       (refl, rw (c .refused .ensures) (omega arith)),
     )
 
@@ -28,7 +28,7 @@ returns-2 c =
     let c8 = c2 .before .before .before .before .before .before in
     let a = c8 .args in (
       too-short (now (a .l)) (now (a .f)) (a .files) (a .start) (now (a .work)) (c .refused2 .result) (c2 .if1 .left)
-          (c .before .if2 .taken) (c .refused2 .ensures),
+          (omega (arith, c .before .if2 .taken)) (c .refused2 .ensures),
       (refl, rw (c .refused2 .ensures) (omega arith)),
     )
 
