@@ -66,11 +66,13 @@ pub fn value_inside(b: &[u8], at: usize) -> u32
 pub fn value_at(b: &[u8], at: usize) -> u32
     ensures { λ r. ⌜ r ≡ valueAt (now (b .entry)) at ⌝ }
 {
+    if 4 <= b.len() {
+        if at <= b.len() - 4 {
+            return value_inside(b, at);
+        }
+    }
     if b.len() <= at {
         return 0;
-    }
-    if 4 <= b.len() - at {
-        return value_inside(b, at);
     }
     byte_at(b, at) * 16777216
         + byte_at(b, at + 1) * 65536

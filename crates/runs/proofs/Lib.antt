@@ -1,3 +1,4 @@
+-- The theory of runs: the computed answer meets the third demand, no other does, and dropping threads loses nothing.
 pub mod Lists
 pub mod Comparison
 pub mod Trails

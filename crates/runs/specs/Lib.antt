@@ -1,3 +1,4 @@
+-- Definitions of runs over an abstract machine: their order, waiting, the answer, the third demand.
 pub mod Lists
 pub mod Machine
 pub mod Run

@@ -1,3 +1,4 @@
+-- `base::byte_at` meets its contract: the byte there, or 0 past the end.
 use borrow.Author.Needs.{needs}
 use mathlib.Core.Path.{sym}
 use lib.Dec.{lit<}

@@ -1,4 +1,4 @@
--- `base::value_at` meets its contract: past the end, all four bytes inside, or byte by byte.
+-- `base::value_at` meets its contract: all four bytes inside, past the end, or byte by byte.
 use Rattle.base.proofs.Values.{value-past}
 use Rattle.base.specs.Value.{valueAt}
 use native.Mathlib.Omega.{arith}
@@ -7,17 +7,17 @@ use borrow.Author.Needs.{needs}
 use Rattle.base.proofs.value_at.Statement.{statement}
 use Rattle.base.proofs.value_at.Tie as tie
 
-returns : tie.Need-returns
-returns c = sym (value-past _ _ (c .if1 .taken))
-
 sub-if2 : tie.Need-sub-if2
 sub-if2 c = search needs
 
 value-inside-requires : tie.Need-value-inside-requires
 value-inside-requires c κs = search needs
 
+returns : tie.Need-returns
+returns c = search needs
+
 returns-2 : tie.Need-returns-2
-returns-2 c = search needs
+returns-2 c = sym (value-past _ _ (c .if3 .taken))
 
 byte-at-requires : tie.Need-byte-at-requires
 byte-at-requires c κs = search needs
@@ -68,9 +68,9 @@ pub value-at-spec : {M : Type 1} → statement M
 value-at-spec =
     tie.close
     (tie.spec
-    returns
     sub-if2
     value-inside-requires
+    returns
     returns-2
     byte-at-requires
     mul-result
