@@ -120,12 +120,12 @@ alike : (g h : Log) (m n : ℕ) → Recorded g → Recorded h → m < length (g 
 unfolding fireAt expiredAt
 alike g h m n c d i j p q = record { fires = λ f c k. rw q; expires = λ f c k. go c (stepAt f (c .state) k) }
   where
-    last : latest g m ≡ latest h n
-    last = latest-is g c m i ∙ ap (λ (e : Event). e .values) q ∙ sym (latest-is h d n j)
+    latest-same : latest g m ≡ latest h n
+    latest-same = latest-is g c m i ∙ ap (λ (e : Event). e .values) q ∙ sym (latest-is h d n j)
 
     go : (c : Config) (s : Option Step) → expiredBy (g .fields) s c (latest g m) ≡ expiredBy (h .fields) s c (latest h n)
     go c none = refl
-    go c (some s) = rw (last, p)
+    go c (some s) = rw (latest-same, p)
 
 -- What the two orders of events n and n + 1 have to do with each other.
 pub record RecordedOrder (t : LogFile) (n : ℕ) : Type 0 where

@@ -85,8 +85,8 @@ module _ (look : ℕ → Bool) where
     pub below : Below at o
 
   -- reading on, with nothing noted and the same place
-  passes : (t : List ℕ) (at hi : ℕ) (o x : Option ℕ) → x ≡ o → at ≤ hi → Holds t at o → Holds t hi x
-  passes t at hi o x e l h = record { size = h .size; place = h .place ∙ ap num (sym e); below = subst (Below hi) (sym e) (below-wider at hi o l (h .below)) }
+  carried : (t : List ℕ) (at hi : ℕ) (o x : Option ℕ) → x ≡ o → at ≤ hi → Holds t at o → Holds t hi x
+  carried t at hi o x e l h = record { size = h .size; place = h .place ∙ ap num (sym e); below = subst (Below hi) (sym e) (below-wider at hi o l (h .below)) }
 
   -- one more place, at the end of what was read
   named : (t : List ℕ) (at hi : ℕ) (o : Option ℕ) (b : Bool) → length t ≡ 145 → lowestFrom look t 0 145 ≡ min (num o) (num (when b at)) → Below at o
@@ -102,7 +102,7 @@ module _ (look : ℕ → Bool) where
 
   -- nothing is noted
   pub idle : (n : ℕ) → Reads n (λ at t. t) (λ at. none)
-  idle n = record { on = λ at t o l h. passes t at (at + n) o (orElse o none) (or-none o) (omega arith) h }
+  idle n = record { on = λ at t o l h. carried t at (at + n) o (orElse o none) (or-none o) (omega arith) h }
 
   -- a key is noted
   pub notes : (n k : ℕ) (b : Bool) → look k ≡ b → k < 145 → 0 < n → Reads n (λ at t. noted t k at) (λ at. when b at)
@@ -127,7 +127,7 @@ module _ (look : ℕ → Bool) where
     -- from the front of a file on, where no key is named yet
     pub held : Reads n f x → n ≤ nowhere → Holds (f 0 (replicate 145 nowhere)) nowhere (x 0)
     held r l =
-        passes (f 0 (replicate 145 nowhere)) (0 + n) nowhere (x 0) (x 0) refl (omega arith)
+        carried (f 0 (replicate 145 nowhere)) (0 + n) nowhere (x 0) (x 0) refl (omega arith)
         (r .on 0 (replicate 145 nowhere) none (omega arith) (record { size = refl; place = low-start 0 145 (omega arith); below = tt }))
 
     -- behind one byte
@@ -135,8 +135,8 @@ module _ (look : ℕ → Bool) where
     behind r =
         record {
           on = λ at t o l h.
-              passes (f (at + 1) t) (at + 1 + n) (at + suc n) (orElse o (x (at + 1))) (orElse o (x (at + 1))) refl (omega arith)
-              (r .on (at + 1) t o (omega arith) (passes t at (at + 1) o o refl (omega arith) h));
+              carried (f (at + 1) t) (at + 1 + n) (at + suc n) (orElse o (x (at + 1))) (orElse o (x (at + 1))) refl (omega arith)
+              (r .on (at + 1) t o (omega arith) (carried t at (at + 1) o o refl (omega arith) h));
         }
 
     -- one after the other
@@ -146,7 +146,7 @@ module _ (look : ℕ → Bool) where
         record {
           on =
               λ at t o l h.
-              passes (g (at + n) (f at t)) (at + n + m) (at + (n + m)) (orElse (orElse o (x at)) (y (at + n))) (orElse o (orElse (x at) (y (at + n))))
+              carried (g (at + n) (f at t)) (at + n + m) (at + (n + m)) (orElse (orElse o (x at)) (y (at + n))) (orElse o (orElse (x at) (y (at + n))))
               (or-assoc o (x at) (y (at + n))) (omega arith)
               (q .on (at + n) (f at t) (orElse o (x at)) (omega arith) (r .on at t o (omega arith) h));
         }

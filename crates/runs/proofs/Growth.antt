@@ -10,7 +10,7 @@ use lib.ListN.{take}
 use Rattle.runs.specs.inner.Lists.{only, keep, gather}
 use Rattle.runs.specs.Machine.{Machine}
 use Rattle.runs.specs.Run.{Quiet}
-use Rattle.runs.specs.inner.Search.{Thread, begun, arrive, firing, chosen, moves, passes, stays, offers, next, ended, lesser, leastFrom, hopeful}
+use Rattle.runs.specs.inner.Search.{Thread, begun, arrive, firing, chosen, moves, passesOver, stays, offers, next, ended, lesser, leastFrom, hopeful}
 use Rattle.runs.specs.inner.Threads.{candidates}
 use Rattle.runs.proofs.Moves.{stepped, first-fires, firing-quiet}
 
@@ -84,13 +84,13 @@ module _ (M : Machine) where
       → ((j : ℕ) → j < k → fire (th .config) n j ≡ none) → stays M n th ≡ false
   unfolding stays
   leaves n th k d c h e low =
-      ap (λ b. begun (th .trail) && passes M b (firing M th n 0 steps)) c
+      ap (λ b. begun (th .trail) && passesOver M b (firing M th n 0 steps)) c
       ∙ go (firing M th n 0 steps) (first-fires M th n 0 steps k d (omega arith) (omega (arith, h)) e low)
     where
       right : (b : Bool) → (b && false) ≡ false
       right true = refl
       right false = refl
 
-      go : (l : List (Thread M)) → take 1 l ≡ stepped M th n k d ∷ [] → (begun (th .trail) && passes M true l) ≡ false
+      go : (l : List (Thread M)) → take 1 l ≡ stepped M th n k d ∷ [] → (begun (th .trail) && passesOver M true l) ≡ false
       go [] q = absurd (nil≢cons q)
       go (x ∷ l) q = right (begun (th .trail))

@@ -14,7 +14,7 @@ use Rattle.runs.specs.Lists.{In}
 use Rattle.runs.specs.Machine.{Machine}
 use Rattle.runs.specs.Run.{Trail, Quiet}
 use Rattle.runs.specs.Waiting.{Hopeful}
-use Rattle.runs.specs.inner.Search.{Thread, begun, arrive, firing, chosen, moves, passes, stays, unended, anyAlive, hopeful}
+use Rattle.runs.specs.inner.Search.{Thread, begun, arrive, firing, chosen, moves, passesOver, stays, unended, anyAlive, hopeful}
 
 pub and-both : (a b : Bool) → (a && b) ≡ true → (a ≡ true) × (b ≡ true)
 and-both true b e = (refl, e)
@@ -196,17 +196,17 @@ module _ (M : Machine) where
 
   pub stays-in : (n : ℕ) (th : Thread M) → stays M n th ≡ true → (begun (th .trail) ≡ true) × (committed (th .config) ≡ true → Quiet M (th .config) n)
   unfolding stays
-  stays-in n th e = (both .0, λ c. quiet (firing M th n 0 steps) refl (subst (λ b. passes M b (firing M th n 0 steps) ≡ true) c (both .1)))
+  stays-in n th e = (both .0, λ c. quiet (firing M th n 0 steps) refl (subst (λ b. passesOver M b (firing M th n 0 steps) ≡ true) c (both .1)))
     where
-      both : (begun (th .trail) ≡ true) × (passes M (committed (th .config)) (firing M th n 0 steps) ≡ true)
-      both = and-both (begun (th .trail)) (passes M (committed (th .config)) (firing M th n 0 steps)) e
+      both : (begun (th .trail) ≡ true) × (passesOver M (committed (th .config)) (firing M th n 0 steps) ≡ true)
+      both = and-both (begun (th .trail)) (passesOver M (committed (th .config)) (firing M th n 0 steps)) e
 
       silent : (k : ℕ) (o : Option Config) → fire (th .config) n k ≡ o → k < steps → firing M th n 0 steps ≡ [] → fire (th .config) n k ≡ none
       silent k none f h q = f
       silent k (some d) f h q =
           absurd (List·Memᴰ·not-nil (subst (λ l. In (stepped th n k d) l) q (firing-out th n 0 steps k d (omega arith) (omega (arith, h)) f)))
 
-      quiet : (l : List (Thread M)) → firing M th n 0 steps ≡ l → passes M true l ≡ true → Quiet M (th .config) n
+      quiet : (l : List (Thread M)) → firing M th n 0 steps ≡ l → passesOver M true l ≡ true → Quiet M (th .config) n
       quiet [] q p k h = silent k (fire (th .config) n k) refl h q
       quiet (x ∷ l) q p k h = absurd (false≢true p)
 
@@ -217,11 +217,12 @@ module _ (M : Machine) where
 
   pub stays-out : (n : ℕ) (th : Thread M) → begun (th .trail) ≡ true → (committed (th .config) ≡ true → Quiet M (th .config) n) → stays M n th ≡ true
   unfolding stays
-  stays-out n th b q = and-eq-true-iff (begun (th .trail)) (passes M (committed (th .config)) (firing M th n 0 steps)) .1 (b, go (committed (th .config)) refl)
+  stays-out n th b q =
+      and-eq-true-iff (begun (th .trail)) (passesOver M (committed (th .config)) (firing M th n 0 steps)) .1 (b, go (committed (th .config)) refl)
     where
-      go : (c : Bool) → committed (th .config) ≡ c → passes M c (firing M th n 0 steps) ≡ true
+      go : (c : Bool) → committed (th .config) ≡ c → passesOver M c (firing M th n 0 steps) ≡ true
       go false e = refl
-      go true e = ap (passes M true) (firing-quiet th n 0 steps (λ j p l. q e j (omega (arith, l))))
+      go true e = ap (passesOver M true) (firing-quiet th n 0 steps (λ j p l. q e j (omega (arith, l))))
 
   -- ---- tests
 

@@ -47,7 +47,7 @@ pub event-there : (g : Log) (l places : List ℕ) (fields n : ℕ) (r : Loaded) 
     → n < length (g .events) → r ≡ loadedAt l fields (getD places n 0) → Loads g (momentOf n (r .event))
 event-there g l places fields n r ok e f h q =
     let v = ap (λ (x : Loaded). x .event .values) (q ∙ ap (λ m. loadedAt l m (getD places n 0)) f) ∙ ap (λ (x : Event). x .values) (e n h) in
-    record { there = h; values = v; last = v ∙ ap (pad 8 0) (sym (latest-is g ok n h)) }
+    record { there = h; values = v; latest-are = v ∙ ap (pad 8 0) (sym (latest-is g ok n h)) }
 
 -- the words of the start configuration, stored in slot 0, are read back
 pub origin-stored : (before after : List ℕ) → 192 ≤ length before → after ≡ put before (place 0 0) (wordsOf originThread)

@@ -75,7 +75,7 @@ module _ (g : Log) (fm : Formula) (f table : List ℕ) (rules : Rules) (s : Sett
 
     pub latest-fields : (i : ℕ) → field (m .latest .values) i ≡ field (latest g (m .number)) i
     latest-fields =
-        padded (m .latest .values) (latest g (m .number)) (l .last)
+        padded (m .latest .values) (latest g (m .number)) (l .latest-are)
         (subst (λ (v : Values). length v ≤ 8) (sym (latest-is g (s .log) (m .number) (l .there))) short)
 
 -- what a thread's step left, from what the code answers

@@ -51,7 +51,7 @@ module _ (g : Log) (fm : Formula) (t : Thread) (n : ℕ) where
           moves-are = moves-ordinary (machine g fm) n (thread g fm t) e;
           stays-is =
               begun-steps fm t h ∙ sym (and-true (Runs.begun (trailOf t)))
-              ∙ ap (λ b. Runs.begun (trailOf t) && Runs.passes (machine g fm) b (Runs.firing (machine g fm) (thread g fm t) n 0 8)) (sym e);
+              ∙ ap (λ b. Runs.begun (trailOf t) && Runs.passesOver (machine g fm) b (Runs.firing (machine g fm) (thread g fm t) n 0 8)) (sym e);
         }
 
     pub quiet-choice : committed fm (configOf (t .config)) ≡ true → Lowest g fm (configOf (t .config)) n 8
@@ -62,9 +62,9 @@ module _ (g : Log) (fm : Formula) (t : Thread) (n : ℕ) where
           moves-are = moves-quiet (machine g fm) n (thread g fm t) (low .quiet);
           stays-is =
               begun-steps fm t h ∙ sym (and-true (Runs.begun (trailOf t)))
-              ∙ ap (λ l. Runs.begun (trailOf t) && Runs.passes (machine g fm) true l)
+              ∙ ap (λ l. Runs.begun (trailOf t) && Runs.passesOver (machine g fm) true l)
               (sym (firing-quiet (machine g fm) (thread g fm t) n 0 8 (λ j p l. low .quiet j l)))
-              ∙ ap (λ b. Runs.begun (trailOf t) && Runs.passes (machine g fm) b (Runs.firing (machine g fm) (thread g fm t) n 0 8)) (sym e);
+              ∙ ap (λ b. Runs.begun (trailOf t) && Runs.passesOver (machine g fm) b (Runs.firing (machine g fm) (thread g fm t) n 0 8)) (sym e);
         }
 
     pub lowest-choice : (k : ℕ) → committed fm (configOf (t .config)) ≡ true → k < 8 → Lowest g fm (configOf (t .config)) n k

@@ -10,7 +10,7 @@ use Rattle.base.proofs.Lists.{all-bytes, rest-length}
 use Rattle.expression_reader.specs.inner.Prefix.{joined, whole}
 use Rattle.expression_reader.proofs.Operands.{Going, begun, taken-head, refused-head, refused-operand, operand-within, with-operand, ended}
 use Rattle.expression_reader.proofs.read_expr.Reads as read-expr
-use Rattle.expression_reader.proofs.read_expr.Kinds as kinds
+use Rattle.expression_reader.proofs.read_expr.Kinds as read-expr-kinds
 use Rattle.expression_reader.proofs.+read_expr.Lts-read_expr as lts
 use Rattle.expression_reader.proofs.expr_head.Reads as expr-head
 use Rattle.expression_reader.proofs.join.Reads as join
@@ -18,14 +18,14 @@ use Rattle.expression_reader.proofs.+read_expr.{statement}
 use Rattle.expression_reader.proofs.+read_expr.Tie.{close}
 
 -- the depth that is still allowed falls with each call
-abbrev μ-read-expr : Measures 2 kinds.ps ℕ
+abbrev μ-read-expr : Measures 2 read-expr-kinds.ps ℕ
 μ-read-expr κs a = a .1 .1 .0
 
-abbrev at-depth : ℕ → In 2 kinds.ps
-at-depth t = and 2 kinds.ps (is 2 kinds.ps μ-read-expr t) read-expr.Pre
+abbrev at-depth : ℕ → In 2 read-expr-kinds.ps
+at-depth t = and 2 read-expr-kinds.ps (is 2 read-expr-kinds.ps μ-read-expr t) read-expr.Pre
 
-abbrev below : ℕ → In 2 kinds.ps
-below t = and 2 kinds.ps (falls 2 kinds.ps _<_ μ-read-expr t) read-expr.Pre
+abbrev below : ℕ → In 2 read-expr-kinds.ps
+below t = and 2 read-expr-kinds.ps (falls 2 read-expr-kinds.ps _<_ μ-read-expr t) read-expr.Pre
 
 -- what the calls ask and give
 abbrev claims : ℕ → lts.Claims

@@ -44,14 +44,15 @@ module _ (M : Machine) where
   unfoldable pub moves : ℕ → Thread M → List (Thread M)
   moves n th = chosen (committed (th .config)) (firing th n 0 steps)
 
-  abbrev pub passes : Bool → List (Thread M) → Bool
-  passes false ms = true
-  passes true [] = true
-  passes true (m ∷ ms) = false
+  -- whether the event may be passed over, by what would fire on it
+  abbrev pub passesOver : Bool → List (Thread M) → Bool
+  passesOver false ms = true
+  passesOver true [] = true
+  passesOver true (m ∷ ms) = false
 
   -- 'steps may be passed over'; not in a committed state where one fires, and never before the first step
   unfoldable pub stays : ℕ → Thread M → Bool
-  stays n th = begun (th .trail) && passes (committed (th .config)) (firing th n 0 steps)
+  stays n th = begun (th .trail) && passesOver (committed (th .config)) (firing th n 0 steps)
 
   -- a partial run that may wait: 'not yet ended', 'of 1 to 31 steps'
   unfoldable pub unended : Thread M → Bool

@@ -70,7 +70,7 @@ MarkedIs f steps rises m before after = (length after ≡ length before) × (Eve
 pub record Loads (g : Log) (m : Moment) : Type 0 where
   pub there : m .number < length (g .events)
   pub values : m .event .values ≡ pad 8 0 ((eventAt g (m .number)) .values)
-  pub last : m .latest .values ≡ pad 8 0 (latest g (m .number))
+  pub latest-are : m .latest .values ≡ pad 8 0 (latest g (m .number))
 
 -- what the functions of one event are given: the setting, the event, and the event's table
 pub record Scene (g : Log) (fm : Formula) (f table : List ℕ) (rules : Rules) (m : Moment) : Type 0 where
