@@ -268,7 +268,7 @@ fn all_starts(
     work: &mut [u32],
     rows: &mut [u32],
 ) -> Outcome
-    requires { ⌜ (scope .slots * 192 ≤ length (now work)) × (1 ≤ scope .slots) × (scope .events ≤ 1024) × (12 * scope .events ≤ length (now rows)) ⌝ }
+    requires { ⌜ (scope .slots * 192 ≤ length (now work)) × (1 ≤ scope .slots) × (scope .events ≤ 1024) × (12 * scope .events ≤ length (now rows)) × (length (now places) ≡ 1024) ⌝ }
     ensures { λ r. ⌜ AllStarts (now (l .entry)) (now (places .entry)) (now (f .entry)) (now (table .entry)) scope tied (now (rows .entry)) (now (rows .exit)) r ⌝ }
 {
     let mut start: usize = 0;

@@ -34,7 +34,7 @@ use Rattle.machine.specs.Firing.{hold, leave, fires, fire}
 use Rattle.machine.specs.Expiry as Expiry
 use Rattle.machine.specs.Expiry.{expired}
 use Rattle.machine.specs.Machine.{fireAt, expiredAt, committed, final, accepting}
-use Rattle.runs.specs.inner.Lists.{keep, gather, has, distinct}
+use Rattle.runs.specs.inner.Lists.{keep, inTurn, has, distinct}
 use Rattle.runs.specs.inner.Order.{lex, order}
 use Rattle.runs.specs.inner.Search as Runs
 use Rattle.runs.specs.inner.Search.{firing, moves, stays, unended, offers, endings, lesser, leastFrom, least, anyAlive, hopeful, waiting, waitingCount, scan, origin, search}
@@ -52,12 +52,12 @@ use Rattle.text.specs.Text.{ascii, digits, decimal, word, spaced, variable, eac
 use Rattle.checked_list.proofs.Exchange.{exchange}
 
 -- every definition on the way from the bytes to an answer: what a case unfolds
-definitions : Unit {0}
+unfoldable pub definitions : Unit {0}
 unfolding readLog LogRead.readFrom draftOf eventsOf lastOf falls nextField nextEvent nextEnd nextCommand encodeField encodeEntry encodeBody bytesOf valueAt
     valuesFrom pad flatMap readFormula FormulaRead.readFrom FormulaRead.start opcode operatorOf kindOf exprOpcode over exprWith readExpr next assembly assemble
     firstLeaf firstAbsent firstUnbound judge afterEnd guardCommands stepCommands stateCommands commands encodeExpr encodeClause encodeCommand binds edgesFrom
     mark round rounds unbound isUnbound Configuration.start same hold leave fires fire stepAt stepsOf eventAt Latest.over Latest.latest fireAt expiredAt
-    committed final accepting Expiry.rising Expiry.falling expired value keep gather has distinct lex order firing moves stays unended offers Runs.next endings
+    committed final accepting Expiry.rising Expiry.falling expired value keep inTurn has distinct lex order firing moves stays unended offers Runs.next endings
     lesser leastFrom least anyAlive hopeful waiting waitingCount scan origin search slotsOf Search.checked searchAnswer named tiedAlike subsumes subsumed
     verdict mask noneRow row rowsFrom Analysis.checked analysis ascii digits decimal word spaced variable each held variables details Text.line lineIn lines
     refusedLine printed
@@ -76,7 +76,7 @@ pairs [] = []
 pairs (a ∷ []) = []
 pairs (a ∷ (b ∷ ds)) = (16 * a + b) ∷ pairs ds
 
-abbrev hex : String → List ℕ
+abbrev pub hex : String → List ℕ
 hex s = pairs (digitsOf s)
 
 -- "L, 23 bytes .. (time 500 twice; code 1 trip, 2 open)"
@@ -122,25 +122,25 @@ abbrev tiedF : List ℕ
 tiedF = hex "1600 1000 1101 12010000000001 140000 1000 1102 12010000000002 1002 00"
 
 -- work words of so many seats; rows lent for so many events, a 9 in every word
-abbrev seats : ℕ → ℕ
+abbrev pub seats : ℕ → ℕ
 seats n = n * 192
 
-abbrev lent : ℕ → List ℕ
+abbrev pub lent : ℕ → List ℕ
 lent events = replicate (12 * events) 9
 
 -- the answer and the rows of an analysis with 64 seats
-abbrev analysed : List ℕ → List ℕ → ℕ → Analysed
+abbrev pub analysed : List ℕ → List ℕ → ℕ → Analysed
 analysed l f events = analysis l f (seats 64) (lent events)
 
 -- all rows are written, and are these
-abbrev done : List ℕ → Analysed
+abbrev pub done : List ℕ → Analysed
 done rows = record { outcome = Done; rows = rows }
 
 -- a row: verdict, last event, steps, mask, the value of variable 0; a none row
-abbrev rowOf : ℕ → ℕ → ℕ → ℕ → ℕ → List ℕ
+abbrev pub rowOf : ℕ → ℕ → ℕ → ℕ → ℕ → List ℕ
 rowOf v last steps held x = v ∷ last ∷ steps ∷ held ∷ x ∷ replicate 7 0
 
-abbrev none : List ℕ
+abbrev pub none : List ℕ
 none = replicate 12 0
 
 -- file, number and place that a search and an analysis are refused with
@@ -154,10 +154,10 @@ abbrev report : Outcome → Option Report
 report Done = Option·none
 report (Outcome·Refused r) = some (reportOf r)
 
-abbrev searchRefused : List ℕ → List ℕ → ℕ → ℕ → Option Report
+abbrev pub searchRefused : List ℕ → List ℕ → ℕ → ℕ → Option Report
 searchRefused l f start words = searchReport ((searchAnswer l f start words) .verdict)
 
-abbrev refused : List ℕ → List ℕ → Option Report
+abbrev pub refused : List ℕ → List ℕ → Option Report
 refused l f = report ((analysed l f 2) .outcome)
 
 -- what L says: a rising and a plain field, two events

@@ -1,3 +1,4 @@
 -- The cases proved against the definitions, and the order of events with one time.
 pub mod Bench
 pub mod Exchange
+pub mod Bounces

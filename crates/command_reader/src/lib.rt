@@ -1,5 +1,6 @@
 // The next command of a formula file: taken, END, or its refusal.
 use expression_reader::ExprRead;
+use expression_reader::is_list;
 use expression_reader::read_expr;
 use formula::Opcode;
 use formula::Summary;
@@ -10,8 +11,8 @@ ghost use mathlib.Core.Bool.{not, _&&_};
 ghost use lib.Dec.{ltb};
 ghost use Prim.Native.Nat.{_+_, _-_, _^_, _≤_, _<_};
 ghost use lib.ListN.{length};
-ghost use Rattle.formula.specs.Read.{opcode, allowed, room, next};
-ghost use Rattle.command_reader.specs.inner.Take.{operandsAt, stateAt, stepAt, tiedAt, testAt, testvAt, bindAt, guardAt, takenAt, nextEnd, nextShape};
+ghost use Rattle.formula.specs.Read.{opcode, allowed, room, again, next};
+ghost use Rattle.command_reader.specs.inner.Take.{operandsAt, stateAt, stepAt, tiedAt, testAt, testvAt, bindAt, gatherAt, guardAt, takenAt, nextEnd, nextShape};
 ghost use Rattle.expression_reader.specs.inner.Prefix.{command};
 
 // A command of the file with what is kept of it.
@@ -22,6 +23,7 @@ pub enum Command {
     Test,
     Testv(usize),
     Bind(usize),
+    Gather(usize),
     Guard,
 }
 
@@ -45,8 +47,9 @@ fn opcode_of(b: u8) -> Opcode
         0x14 => Opcode::Bind,
         0x15 => Opcode::Guard,
         0x16 => Opcode::Tied,
+        0x17 => Opcode::Gather,
         0x01..=0x0F => Opcode::Other,
-        0x17..=255 => Opcode::Other,
+        0x18..=255 => Opcode::Other,
     }
 }
 
@@ -73,6 +76,7 @@ fn is_allowed(s: Summary, op: Opcode) -> bool
         Opcode::Bind => some_without(s.steps, s.guarded),
         Opcode::Guard => 0 < s.steps,
         Opcode::Tied => s.states == 0,
+        Opcode::Gather => some_without(s.steps, s.guarded),
         Opcode::Other => false,
     }
 }
@@ -90,6 +94,7 @@ fn has_room(s: Summary, op: Opcode) -> bool
         Opcode::Bind => s.clauses < 8,
         Opcode::Guard => !s.guarded,
         Opcode::Tied => s.tied < 8,
+        Opcode::Gather => s.clauses < 8,
         Opcode::Other => true,
     }
 }
@@ -190,6 +195,45 @@ fn take_bind(part: &[u8], at: usize, fields: usize) -> Next
     operands_at(part, at, 3, base::both(f < fields, v < 8), Command::Bind(v))
 }
 
+// Whether a byte names a list that the step gathers into already.
+fn is_again(seen: [bool; 4], b: u32) -> bool
+    ensures { λ r. ⌜ r ≡ again seen b ⌝ }
+{
+    if is_list(b) {
+        return seen[b as usize - 8];
+    }
+    false
+}
+
+// The number of the list that a byte names, 0 if it names none.
+fn list_number(b: u32) -> usize
+    ensures { λ r. ⌜ r ≡ b - 8 ⌝ }
+{
+    if b < 8 {
+        return 0;
+    }
+    b as usize - 8
+}
+
+// A GATHER in a step that gathers into the lists marked, or its refusal.
+fn take_gather(part: &[u8], at: usize, fields: usize, seen: [bool; 4]) -> Next
+    ensures { λ r. ⌜ r ≡ gatherAt seen (now (part .entry)) at fields ⌝ }
+{
+    let f = base::byte_at(part, 1) as usize;
+    let v = base::byte_at(part, 2);
+    let exist = base::both(f < fields, is_list(v));
+    if part.len() < 3 {
+        return Next::Bad(Refusal::CutShort {
+            file: File::Formula,
+            place: at,
+        });
+    }
+    if is_again(seen, v) {
+        return Next::Bad(Refusal::Twice { place: at });
+    }
+    operands_at(part, at, 3, exist, Command::Gather(list_number(v)))
+}
+
 // A GUARD with its expression, in a step of this state that binds the variables marked, or the refusal.
 fn take_guard(
     part: &[u8],
@@ -219,10 +263,11 @@ fn take_command(
     fields: usize,
     state: usize,
     own: [bool; 8],
+    seen: [bool; 4],
     places: &mut [usize; 145],
 ) -> Next
     requires { ⌜ (0 < length (now part)) × (at + length (now part) < 2 ^ 64) × (state < 16) ⌝ }
-    ensures { λ r. ⌜ nextEnd r (now (places .exit)) ≡ takenAt state own fields (now (part .entry)) at (now (places .entry)) op ⌝ }
+    ensures { λ r. ⌜ nextEnd r (now (places .exit)) ≡ takenAt state own seen fields (now (part .entry)) at (now (places .entry)) op ⌝ }
 {
     match op {
         Opcode::End => Next::End,
@@ -233,6 +278,7 @@ fn take_command(
         Opcode::Bind => take_bind(part, at, fields),
         Opcode::Guard => take_guard(part, at, state, own, places),
         Opcode::Tied => take_tied(part, at),
+        Opcode::Gather => take_gather(part, at, fields, seen),
         Opcode::Other => Next::Bad(Refusal::Foreign {
             file: File::Formula,
             place: at,
@@ -281,5 +327,6 @@ pub fn next_command(
             place: at,
         });
     }
-    take_command(op, part, at, fields, before(s.states), own, places)
+    let seen = s.gathered;
+    take_command(op, part, at, fields, before(s.states), own, seen, places)
 }

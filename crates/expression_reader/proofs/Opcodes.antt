@@ -13,7 +13,7 @@ use Rattle.refusal.specs.declared.Refusal.the-variants.{Surplus}
 use Rattle.expression_reader.proofs.Takes as TakesType
 use Rattle.expression_reader.specs.declared.Takes.{Takes}
 use Rattle.expression_reader.specs.declared.Takes.the-variants.{Value as TakesValue, Variable as TakesVariable, State as TakesState}
-use Rattle.expression_reader.specs.declared.Takes.the-variants.{Operands, Foreign as TakesNothing}
+use Rattle.expression_reader.specs.declared.Takes.the-variants.{List as TakesList, Operands, Foreign as TakesNothing}
 use Rattle.expression_reader.specs.declared.ExprRead.the-variants.{Bad}
 use Rattle.formula.specs.Read.{exprOpcode}
 use Rattle.expression_reader.specs.inner.Prefix.{takes, over}
@@ -46,8 +46,21 @@ takes-two b g h₀ h₁ h₂ k =
 pub takes-two' : (b : ℕ) → 0x29 ≤ b → b < 0x2B → Operands 2 ≡ takes (exprOpcode b)
 takes-two' b h k = ranged (λ n. Operands 2 ≡ takes (exprOpcode n)) 0x29 b h (two-second (b - 0x29) (omega arith))
 
+-- 2C to 2E take a list
+list-any : (k : ℕ) → k < 3 → TakesList ≡ takes (exprOpcode (0x2C + k))
+unfolding exprOpcode
+list-any zero h = refl
+list-any (suc zero) h = refl
+list-any (suc (suc zero)) h = refl
+list-any (suc (suc (suc k))) h = absurd (omega arith)
+
+pub takes-list : (b : ℕ) → 0x2B ≤ b → (b ≡ 0x2B → ⊥) → b < 0x2F → TakesList ≡ takes (exprOpcode b)
+takes-list b g n k =
+    let h : 0x2C ≤ b = omega arith in
+    ranged (λ i. TakesList ≡ takes (exprOpcode i)) 0x2C b h (list-any (b - 0x2C) (omega arith))
+
 -- a byte that is no expression command's
-pub takes-nothing : (b : ℕ) → ((n : ℕ) → 0x20 ≤ n → n ≤ 0x2B → eqb b n ≡ false) → TakesNothing ≡ takes (exprOpcode b)
+pub takes-nothing : (b : ℕ) → ((n : ℕ) → 0x20 ≤ n → n ≤ 0x2E → eqb b n ≡ false) → TakesNothing ≡ takes (exprOpcode b)
 unfolding exprOpcode
 takes-nothing b h =
     rw (
@@ -63,18 +76,22 @@ takes-nothing b h =
       h 0x29 (omega arith) (omega arith),
       h 0x2A (omega arith) (omega arith),
       h 0x2B (omega arith) (omega arith),
+      h 0x2C (omega arith) (omega arith),
+      h 0x2D (omega arith) (omega arith),
+      h 0x2E (omega arith) (omega arith),
     )
 
 pub takes-none-below : (b : ℕ) → b < 0x20 → TakesNothing ≡ takes (exprOpcode b)
 takes-none-below b h = takes-nothing b (λ n p q. ne-eqb b n (λ e. omega arith))
 
-pub takes-none-above : (b : ℕ) → 0x2B < b → TakesNothing ≡ takes (exprOpcode b)
+pub takes-none-above : (b : ℕ) → 0x2E < b → TakesNothing ≡ takes (exprOpcode b)
 takes-none-above b h = takes-nothing b (λ n p q. ne-eqb b n (λ e. omega arith))
 
 -- what begins an expression is surplus
-pub over-begun : (t : Takes) (at : ℕ) → OneOf (0 ∷ 1 ∷ 2 ∷ 3 ∷ []) (tagOf TakesType.the-type t) → Bad (Surplus InFormula at) ≡ over t at
+pub over-begun : (t : Takes) (at : ℕ) → OneOf (0 ∷ 1 ∷ 2 ∷ 3 ∷ 4 ∷ []) (tagOf TakesType.the-type t) → Bad (Surplus InFormula at) ≡ over t at
 over-begun TakesValue at h = refl
 over-begun TakesVariable at h = refl
 over-begun TakesState at h = refl
+over-begun TakesList at h = refl
 over-begun (Operands n) at h = refl
-over-begun TakesNothing at h = absurd (miss (0 ∷ 1 ∷ 2 ∷ 3 ∷ []) 4 tt h)
+over-begun TakesNothing at h = absurd (miss (0 ∷ 1 ∷ 2 ∷ 3 ∷ 4 ∷ []) 5 tt h)

@@ -15,24 +15,27 @@ use Rattle.refusal.specs.declared.File.the-variants.{Formula as InFormula}
 use Rattle.refusal.specs.declared.Refusal.{Refusal}
 use Rattle.refusal.specs.declared.Refusal.the-variants.{CutShort, Value}
 use Rattle.expression_reader.specs.declared.Takes.{Takes}
-use Rattle.expression_reader.specs.declared.Takes.the-variants.{Value as TakesValue, Variable as TakesVariable, State as TakesState, Operands}
-use Rattle.expression_reader.specs.declared.Takes.the-variants.{Foreign as TakesNothing}
+use Rattle.expression_reader.specs.declared.Takes.the-variants.{Value as TakesValue, Variable as TakesVariable, State as TakesState, List as TakesList}
+use Rattle.expression_reader.specs.declared.Takes.the-variants.{Operands, Foreign as TakesNothing}
 use Rattle.expression_reader.specs.declared.Prefix.{Prefix}
 use Rattle.expression_reader.specs.declared.ExprRead.{ExprRead}
 use Rattle.expression_reader.specs.declared.ExprRead.the-variants.{Taken, Bad}
 use Rattle.base.specs.Lists.{Bytes}
 use Rattle.base.specs.Value.{valueAt}
-use Rattle.formula.specs.Formula.{CONST, VAR, COUNT, Expr, LEAF}
+use Rattle.formula.specs.Formula.{Leaf, CONST, VAR, COUNT, Expr, LEAF}
 use Rattle.formula.specs.Encode.{encodeExpr}
-use Rattle.formula.specs.Read.{ExprOpcode, const-op, var-op, count-op, unary, binary, ternary, foreign-op, exprOpcode, ExprNext, expression, failed}
-use Rattle.formula.specs.Read.{overOf, andThen, exprOf, exprWith, readExpr}
+use Rattle.formula.specs.Read.{ExprOpcode, const-op, var-op, count-op, list-op, unary, binary, ternary, foreign-op, exprOpcode, isList, ExprNext}
+use Rattle.formula.specs.Read.{expression, failed, overOf, andThen, exprOf, exprWith, readExpr}
 use Rattle.formula.proofs.Basics.{bytes-drop}
 use Rattle.formula.proofs.Exprs.{Finds, expr-found}
 use Rattle.expression_reader.specs.inner.Places.{leavesNoted, noted, stateKey, varNoted}
 use Rattle.expression_reader.specs.inner.Prefix.{takes, over, ExprEnd, whole, broken, endOf, front, joined, command, constHead, varHead}
-use Rattle.expression_reader.specs.inner.Prefix.{countHead, headOf, roomed, exprHead, shape}
+use Rattle.expression_reader.specs.inner.Prefix.{countHead, listHead, headOf, roomed, exprHead, shape}
 
--- the leaves of an operator are those of its operands, one after the other
+-- a list is not noted; the leaves of an operator are those of its operands, one after the other
+abbrev Unnoted : (ℕ → Leaf) → Type 0
+Unnoted mk = (s : ℕ) (own : List Bool) (at v : ℕ) (places : List ℕ) → leavesNoted s own at (LEAF (mk v)) places ≡ places
+
 abbrev One : (Expr → Expr) → Type 0
 One mk = (s : ℕ) (own : List Bool) (at : ℕ) (a : Expr) (places : List ℕ) → leavesNoted s own at (mk a) places ≡ leavesNoted s own (at + 1) a places
 
@@ -50,6 +53,7 @@ abbrev Ordered : ExprOpcode → Type 0
 Ordered const-op = Unit {0}
 Ordered var-op = Unit {0}
 Ordered count-op = Unit {0}
+Ordered (list-op mk) = Unnoted mk
 Ordered (unary mk) = One mk
 Ordered (binary mk) = Two mk
 Ordered (ternary mk) = Three mk
@@ -73,7 +77,10 @@ ordered b =
     (either (eqb b 0x28) _ _ (λ s own at x places. refl)
     (either (eqb b 0x29) _ _ (λ s own at x y places. refl)
     (either (eqb b 0x2A) _ _ (λ s own at x y places. refl)
-    (either (eqb b 0x2B) _ _ (λ s own at x y z places. refl) tt)))))))))))
+    (either (eqb b 0x2B) _ _ (λ s own at x y z places. refl)
+    (either (eqb b 0x2C) _ _ (λ s own at v places. refl)
+    (either (eqb b 0x2D) _ _ (λ s own at v places. refl)
+    (either (eqb b 0x2E) _ _ (λ s own at v places. refl) tt))))))))))))))
 
 -- operands are read as expressions
 abbrev Operand : Type 0
@@ -216,13 +223,24 @@ module _ (s : ℕ) (own : List Bool) where
     count-is at left b v ops places true = refl
     count-is at left b v ops places false = refl
 
+    list-is : (mk : ℕ → Leaf) → Unnoted mk → (at left b v : ℕ) (ops places : List ℕ) (t exists : Bool)
+        → shape s own at places (cond t (failed (CutShort InFormula at)) (cond exists (expression (LEAF (mk v)) 2 left) (failed (Value InFormula at))))
+        ≡ finish (view op) at (b ∷ ops)
+        (endOf (cond t (Bad (CutShort InFormula at)) (cond exists (command 2 left 0) (Bad (Value InFormula at)))) places)
+    unfolding complete
+    list-is mk g at left b v ops places true exists = refl
+    list-is mk g at left b v ops places false true = rw (g s own at v places)
+    list-is mk g at left b v ops places false false = refl
+
     head-is : (left at b : ℕ) (ops places : List ℕ) (o : ExprOpcode) → Ordered o → Bytes ops
         → shape s own at places (exprOf op left at ops o) ≡ finish (view op) at (b ∷ ops) (headOf s own left at (b ∷ ops) places (takes o))
-    unfolding complete constHead varHead countHead
+    unfolding complete constHead varHead countHead listHead
     head-is left at b ops places const-op g bytes = rw (ltb-suc (length ops) 4) (const-is at left b ops places (ltb (length ops) 4))
     head-is left at b ops places var-op g bytes =
         rw (ltb-suc (length ops) 1) (var-is at left b (getD ops 0 0) ops places (ltb (length ops) 1) (ltb (getD ops 0 0) 8))
     head-is left at b ops places count-op g bytes = rw (ltb-suc (length ops) 1) (count-is at left b (getD ops 0 0) ops places (ltb (length ops) 1))
+    head-is left at b ops places (list-op mk) g bytes =
+        rw (ltb-suc (length ops) 1) (list-is mk g at left b (getD ops 0 0 - 8) ops places (ltb (length ops) 1) (isList (getD ops 0 0)))
     head-is left at b ops places (unary mk) g bytes = unary-is mk g at left places (op left (at + 1) ops)
     head-is left at b ops places (binary mk) g bytes = binary-is mk g at left b ops places (op left (at + 1) ops) (uses left (at + 1) ops bytes)
     head-is left at b ops places (ternary mk) g bytes = ternary-is mk g at left b ops places bytes (op left (at + 1) ops) (uses left (at + 1) ops bytes)
@@ -233,6 +251,7 @@ module _ (s : ℕ) (own : List Bool) where
   over-is op at bs places const-op = refl
   over-is op at bs places var-op = refl
   over-is op at bs places count-op = refl
+  over-is op at bs places (list-op mk) = refl
   over-is op at bs places (unary mk) = refl
   over-is op at bs places (binary mk) = refl
   over-is op at bs places (ternary mk) = refl
@@ -266,17 +285,21 @@ module _ (s : ℕ) (own : List Bool) where
   over-within depth at bs places TakesValue = tt
   over-within depth at bs places TakesVariable = tt
   over-within depth at bs places TakesState = tt
+  over-within depth at bs places TakesList = tt
   over-within depth at bs places (Operands n) = tt
   over-within depth at bs places TakesNothing = tt
 
   head-of-within : (depth left at : ℕ) (bs places : List ℕ) → 0 < length bs → 0 < depth → (t : Takes) → Within depth bs (headOf s own left at bs places t)
-  unfolding constHead varHead countHead
+  unfolding constHead varHead countHead listHead
   head-of-within depth left at bs places h k TakesValue =
       cond-holds (λ x. Within depth bs (endOf x places)) (ltb (length bs) 5) _ _ (λ e. tt) (λ e. (ltb-false (length bs) 5 e, k))
   head-of-within depth left at bs places h k TakesVariable =
       cond-holds (Within depth bs) (ltb (length bs) 2) _ _ (λ e. tt)
       (λ e. cond-holds (Within depth bs) (ltb (getD bs 1 0) 8) _ _ (λ f. (ltb-false (length bs) 2 e, k)) (λ f. tt))
   head-of-within depth left at bs places h k TakesState = cond-holds (Within depth bs) (ltb (length bs) 2) _ _ (λ e. tt) (λ e. (ltb-false (length bs) 2 e, k))
+  head-of-within depth left at bs places h k TakesList =
+      cond-holds (λ x. Within depth bs (endOf x places)) (ltb (length bs) 2) _ _ (λ e. tt)
+      (λ e. cond-holds (λ x. Within depth bs (endOf x places)) (isList (getD bs 1 0)) _ _ (λ f. (ltb-false (length bs) 2 e, k)) (λ f. tt))
   head-of-within depth left at bs places h k (Operands n) = (h, k)
   head-of-within depth left at bs places h k TakesNothing = tt
 

@@ -9,14 +9,15 @@ use refusal::Refusal;
 ghost use mathlib.Core.Path.{_≡_};
 ghost use Prim.Native.Nat.{_+_, _^_, _<_};
 ghost use lib.ListN.{length};
-ghost use Rattle.formula.specs.Read.{exprOpcode, readExpr};
-ghost use Rattle.expression_reader.specs.inner.Prefix.{takes, over, joined, command, endOf, constHead, varHead, countHead, headOf, exprHead, shape};
+ghost use Rattle.formula.specs.Read.{exprOpcode, isList, readExpr};
+ghost use Rattle.expression_reader.specs.inner.Prefix.{takes, over, joined, command, endOf, constHead, varHead, countHead, listHead, headOf, exprHead, shape};
 
-// What an expression command takes: a value, a variable, a state, or a number of operands.
+// What an expression command takes: a value, a variable, a state, a list, or a number of operands.
 enum Takes {
     Value,
     Variable,
     State,
+    List,
     Operands(usize),
     Foreign,
 }
@@ -46,8 +47,9 @@ fn takes_of(op: u8) -> Takes
         0x2B => Takes::Operands(3),
         0x23..=0x27 => Takes::Operands(2),
         0x29..=0x2A => Takes::Operands(2),
+        0x2C..=0x2E => Takes::List,
         0..=0x1F => Takes::Foreign,
-        0x2C..=255 => Takes::Foreign,
+        0x2F..=255 => Takes::Foreign,
     }
 }
 
@@ -147,6 +149,32 @@ fn count_head(part: &[u8], at: usize, left: usize, places: &mut [usize; 145]) ->
     command_with(2, left, 0)
 }
 
+// Whether a byte names a list.
+pub fn is_list(b: u32) -> bool
+    ensures { λ r. ⌜ r ≡ isList b ⌝ }
+{
+    base::both(8 <= b, b < 12)
+}
+
+// A SUM, LENGTH or DIFFERENT, or its refusal.
+fn list_head(part: &[u8], at: usize, left: usize) -> ExprRead
+    ensures { λ r. ⌜ r ≡ listHead left at (now (part .entry)) ⌝ }
+{
+    if part.len() < 2 {
+        return ExprRead::Bad(Refusal::CutShort {
+            file: File::Formula,
+            place: at,
+        });
+    }
+    if is_list(base::byte_at(part, 1)) {
+        return command_with(2, left, 0);
+    }
+    ExprRead::Bad(Refusal::Value {
+        file: File::Formula,
+        place: at,
+    })
+}
+
 // The expression command of this sort at `at`, where the part begins, or its refusal.
 fn head_of(
     t: Takes,
@@ -164,6 +192,7 @@ fn head_of(
         Takes::Value => const_head(part, at, left),
         Takes::Variable => var_head(part, at, left, state, own, places),
         Takes::State => count_head(part, at, left, places),
+        Takes::List => list_head(part, at, left),
         Takes::Operands(n) => command_with(1, left, n),
         Takes::Foreign => ExprRead::Bad(Refusal::Foreign {
             file: File::Formula,

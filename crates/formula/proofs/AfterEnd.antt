@@ -11,8 +11,8 @@ use lib.Dec.{ltb}
 use lib.ListN.{length}
 use lib.Seq.{append-snoc}
 use Rattle.base.specs.Lists.{All}
-use Rattle.formula.specs.Formula.{Leaf, CONST, VAR, COUNT, Expr, LEAF, ADD, SUB, LESS, ATMOST, EQUAL, NOT, AND, OR, IF, Clause, TEST, TESTV}
-use Rattle.formula.specs.Formula.{BIND, Step, State, Formula}
+use Rattle.formula.specs.Formula.{Leaf, CONST, VAR, COUNT, SUM, LENGTH, DIFFERENT, Expr, LEAF, ADD, SUB, LESS, ATMOST, EQUAL, NOT, AND, OR, IF}
+use Rattle.formula.specs.Formula.{Clause, TEST, TESTV, BIND, GATHER, Step, State, Formula}
 use Rattle.formula.specs.Encode.{Command, TIED, STATE, STEP, CLAUSE, GUARD, guardCommands, stepCommands, stateCommands, commands, encodeExpr}
 use Rattle.formula.specs.Encode.{encodeCommand}
 use Rattle.formula.specs.Unbound.{binds, Unbound, isUnbound}
@@ -28,6 +28,9 @@ abbrev pub LeafDeclared : ℕ → Leaf → Type 0
 LeafDeclared n (CONST x) = Unit {0}
 LeafDeclared n (VAR v) = Unit {0}
 LeafDeclared n (COUNT s) = s < n
+LeafDeclared n (SUM v) = Unit {0}
+LeafDeclared n (LENGTH v) = Unit {0}
+LeafDeclared n (DIFFERENT v) = Unit {0}
 
 abbrev pub Declared : ℕ → Command → Type 0
 Declared n (TIED v) = Unit {0}
@@ -41,16 +44,25 @@ leaf-both : (n : ℕ) (l : Leaf) → LeafReads l → LeafDeclared n l → LeafEx
 leaf-both n (CONST x) r d = r
 leaf-both n (VAR v) r d = r
 leaf-both n (COUNT s) r d = d
+leaf-both n (SUM v) r d = r
+leaf-both n (LENGTH v) r d = r
+leaf-both n (DIFFERENT v) r d = r
 
 leaf-reads : (n : ℕ) (l : Leaf) → LeafExists n l → LeafReads l
 leaf-reads n (CONST x) h = h
 leaf-reads n (VAR v) h = h
 leaf-reads n (COUNT s) h = tt
+leaf-reads n (SUM v) h = h
+leaf-reads n (LENGTH v) h = h
+leaf-reads n (DIFFERENT v) h = h
 
 leaf-declared : (n : ℕ) (l : Leaf) → LeafExists n l → LeafDeclared n l
 leaf-declared n (CONST x) h = tt
 leaf-declared n (VAR v) h = tt
 leaf-declared n (COUNT s) h = h
+leaf-declared n (SUM v) h = tt
+leaf-declared n (LENGTH v) h = tt
+leaf-declared n (DIFFERENT v) h = tt
 
 pub exists-both : (fields n : ℕ) (c : Command) → Operands fields c → Declared n c → Exists fields n c
 exists-both fields n (TIED v) o d = o
@@ -59,6 +71,7 @@ exists-both fields n (STEP t) o d = d
 exists-both fields n (CLAUSE (TEST f p v)) o d = o
 exists-both fields n (CLAUSE (TESTV f p v)) o d = o
 exists-both fields n (CLAUSE (BIND f v)) o d = o
+exists-both fields n (CLAUSE (GATHER f v)) o d = o
 exists-both fields n (GUARD e) o d = leaves-both LeafReads (LeafDeclared n) (LeafExists n) (leaf-both n) e o d
 
 pub exists-operands : (fields n : ℕ) (c : Command) → Exists fields n c → Operands fields c
@@ -68,6 +81,7 @@ exists-operands fields n (STEP t) x = tt
 exists-operands fields n (CLAUSE (TEST f p v)) x = x
 exists-operands fields n (CLAUSE (TESTV f p v)) x = x
 exists-operands fields n (CLAUSE (BIND f v)) x = x
+exists-operands fields n (CLAUSE (GATHER f v)) x = x
 exists-operands fields n (GUARD e) x = leaves-map (LeafExists n) LeafReads (leaf-reads n) e x
 
 pub exists-declared : (fields n : ℕ) (c : Command) → Exists fields n c → Declared n c
@@ -77,6 +91,7 @@ exists-declared fields n (STEP t) x = x
 exists-declared fields n (CLAUSE (TEST f p v)) x = tt
 exists-declared fields n (CLAUSE (TESTV f p v)) x = tt
 exists-declared fields n (CLAUSE (BIND f v)) x = tt
+exists-declared fields n (CLAUSE (GATHER f v)) x = tt
 exists-declared fields n (GUARD e) x = leaves-map (LeafExists n) (LeafDeclared n) (leaf-declared n) e x
 
 -- neither of two places is there exactly when none is
@@ -149,11 +164,17 @@ absent-leaf : (n : ℕ) (l : Leaf) → absentLeaf n l ≡ false → LeafDeclared
 absent-leaf n (CONST x) e = tt
 absent-leaf n (VAR v) e = tt
 absent-leaf n (COUNT s) e = ltb-true s n (not-false (ltb s n) e)
+absent-leaf n (SUM v) e = tt
+absent-leaf n (LENGTH v) e = tt
+absent-leaf n (DIFFERENT v) e = tt
 
 declared-leaf : (n : ℕ) (l : Leaf) → LeafDeclared n l → absentLeaf n l ≡ false
 declared-leaf n (CONST x) d = refl
 declared-leaf n (VAR v) d = refl
 declared-leaf n (COUNT s) d = rw (lt-ltb s n d)
+declared-leaf n (SUM v) d = refl
+declared-leaf n (LENGTH v) d = refl
+declared-leaf n (DIFFERENT v) d = refl
 
 absent-in : (n at : ℕ) (c : Command) → absentIn n at c ≡ none → Declared n c
 absent-in n at (TIED v) e = tt
@@ -212,6 +233,9 @@ unbound-leaf f s own (VAR v) few h e =
     let d : suc s - 1 ≡ s = omega arith in
     λ r. marks-no f v s few h (subst (λ j. isUnbound f v j ≡ false) d (and-not (isUnbound f v (suc s - 1)) (binds v own) e r))
 unbound-leaf f s own (COUNT t) few h e = tt
+unbound-leaf f s own (SUM v) few h e = tt
+unbound-leaf f s own (LENGTH v) few h e = tt
+unbound-leaf f s own (DIFFERENT v) few h e = tt
 
 bound-leaf : (f : Formula) (s : ℕ) (own : List Clause) (l : Leaf) → LeafBound f s own l → unboundLeaf (isUnbound f) (suc s) own l ≡ false
 bound-leaf f s own (CONST x) b = refl
@@ -219,6 +243,9 @@ bound-leaf f s own (VAR v) b =
     let d : suc s - 1 ≡ s = omega arith in
     not-and (isUnbound f v (suc s - 1)) (binds v own) (λ r. subst (λ j. isUnbound f v j ≡ false) (sym d) (marks-false f v s (b r)))
 bound-leaf f s own (COUNT t) b = refl
+bound-leaf f s own (SUM v) b = refl
+bound-leaf f s own (LENGTH v) b = refl
+bound-leaf f s own (DIFFERENT v) b = refl
 
 -- nothing unbound is found in the commands cs, from some offset and with some clauses before
 record Free (f : Formula) (seen : ℕ) (cs : List Command) : Type 0 where
@@ -245,6 +272,7 @@ module _ (f : Formula) (few : length (f .states) ≤ 16) where
           let d : suc s - 1 ≡ s = omega arith in
           marks-no f v s few h (rw d at (when-none (isUnbound f v (suc s - 1)) at z))
       first (BIND g v) z = tt
+      first (GATHER g v) z = tt
 
   free-guard : (o : Option Expr) (s : ℕ) (own : List Clause) (at : ℕ) (cs : List Command) → s < 16
       → firstUnbound (isUnbound f) (suc s) own at (guardCommands o ++ cs) ≡ none → GuardBound f s own o × Free f (suc s) cs
@@ -312,6 +340,7 @@ module _ (f : Formula) where
           let d : suc s - 1 ≡ s = omega arith in
           rw d (when-false (isUnbound f v s) at (marks-false f v s b))
       first (BIND g v) b = refl
+      first (GATHER g v) b = refl
 
   bound-guard : (o : Option Expr) (s : ℕ) (own : List Clause) (at : ℕ) (cs : List Command) → GuardBound f s own o
       → ((k : ℕ) → firstUnbound (isUnbound f) (suc s) own k cs ≡ none) → firstUnbound (isUnbound f) (suc s) own at (guardCommands o ++ cs) ≡ none

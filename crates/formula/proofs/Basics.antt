@@ -1,16 +1,19 @@
 -- Small laws on bytes, tests and expressions that the laws of reading cite.
-use Prim.Native.Nat.{ℕ, zero, suc}
+use Prim.Native.Nat.{ℕ, zero, suc, _-_}
 use mathlib.Core.Path.{_≡_, sym, subst}
-use mathlib.Core.Bool.{cond}
+use mathlib.Core.Bool.{true, cond}
 use mathlib.Core.List.{List, [], _∷_, _++_}
-use borrow.Author.Tests.{eqb-true}
-use lib.Dec.{eqb}
+use native.Mathlib.Omega.{arith}
+use borrow.Author.Tests.{eqb-true, ltb-true, leb-true, lt-ltb, le-leb}
+use lib.Dec.{eqb, ltb, leb}
 use lib.ListN.{length, drop}
 use lib.Seq.{drop-at}
-use Rattle.base.proofs.Tests.{cond-holds}
+use Rattle.base.proofs.Tests.{cond-holds, and-left, and-right}
 use Rattle.base.specs.Lists.{All, Bytes}
 use Rattle.formula.specs.Formula.{Leaf, Expr, LEAF, ADD, SUB, LESS, ATMOST, EQUAL, NOT, AND, OR, IF}
-use Rattle.formula.specs.Correct.{Leaves}
+use Rattle.formula.specs.Encode.{listByte}
+use Rattle.formula.specs.Correct.{Leaves, ListVariable}
+use Rattle.formula.specs.Read.{isList}
 
 -- a choice by a byte: the branch's property at that byte, or that of the other choices
 pub byte-case : {A : Type 0} (P : ℕ → A → Type 0) (b k : ℕ) (x y : A) → P k x → P b y → P b (cond (eqb b k) x y)
@@ -25,6 +28,19 @@ bytes-drop (suc n) (x ∷ xs) h = bytes-drop n xs (h .1)
 -- what stands behind the front of a list
 pub behind : (l x t : List ℕ) (u : ℕ) → l ≡ x ++ t → u ≡ length x → drop u l ≡ t
 behind l x t u e h = rw e (drop-at x t u (sym h))
+
+-- a byte that names a list is its number's, and a list's byte names it
+pub list-back : (b : ℕ) → isList b ≡ true → (b ≡ listByte (b - 8)) × ListVariable (b - 8)
+list-back b h =
+    let p = leb-true 8 b (and-left (leb 8 b) (ltb b 12) h) in
+    let q = ltb-true b 12 (and-right (leb 8 b) (ltb b 12) h) in
+    (omega arith, omega arith)
+
+pub list-number : (v : ℕ) → listByte v - 8 ≡ v
+list-number v = omega arith
+
+pub list-named : (v : ℕ) → ListVariable v → isList (listByte v) ≡ true
+list-named v h = rw (le-leb 8 (listByte v) (omega arith), lt-ltb (listByte v) 12 (omega arith))
 
 -- properties of the leaves, put together leaf by leaf
 pub leaves-both : (P Q R : Leaf → Type 0) → ((l : Leaf) → P l → Q l → R l) → (e : Expr) → Leaves P e → Leaves Q e → Leaves R e

@@ -1,37 +1,38 @@
 -- Taking the next command: what is taken is the encoding of an allowed command whose operands exist, and every such encoding is taken as its command.
-use Prim.Native.Nat.{ℕ, zero, suc, _+_, _<_, _≤_}
+use Prim.Native.Nat.{ℕ, zero, suc, _+_, _-_, _<_, _≤_}
 use mathlib.Core.Path.{_≡_, refl, ap}
 use mathlib.Core.Bool.{Bool, true, false, not, _&&_}
 use mathlib.Core.List.{List, [], _∷_, _++_}
 use native.Mathlib.Omega.{arith}
 use native.Mathlib.Nat.{not-suc-le-zero}
 use borrow.Author.Tests.{ltb-true, lt-ltb, le-ltb, eqb-true, eq-eqb, not-true}
-use lib.Dec.{ltb}
+use lib.Dec.{ltb, leb}
 use lib.ListN.{length, getD, drop}
 use Rattle.base.specs.Lists.{Bytes}
 use Rattle.base.specs.Value.{bytesOf, valueAt}
 use Rattle.base.proofs.Values.{bytes-of-value, value-of-bytes}
-use Rattle.formula.specs.Formula.{Operator, equal, unequal, less, greater, atmost, atleast, Clause, TEST, TESTV, BIND, StateKind, ordinary}
-use Rattle.formula.specs.Formula.{committed, accept, reject}
+use Rattle.formula.specs.Formula.{Operator, equal, unequal, less, greater, atmost, atleast, Clause, TEST, TESTV, BIND, GATHER, StateKind}
+use Rattle.formula.specs.Formula.{ordinary, committed, accept, reject}
 use Rattle.formula.specs.Encode.{Command, TIED, STATE, STEP, CLAUSE, GUARD, encodeExpr, encodeClause, encodeCommand, operatorByte, kindByte}
-use Rattle.formula.specs.Correct.{size, depth, Value, Variable}
+use Rattle.formula.specs.Encode.{listByte}
+use Rattle.formula.specs.Correct.{size, depth, Value, Variable, ListVariable, Fresh}
 use Rattle.formula.specs.declared.Summary.{Summary}
 use Rattle.formula.specs.declared.Opcode.{Opcode}
 use Rattle.formula.specs.declared.Opcode.the-variants.{End as end-op, State as state-op, Step as step-op, Test as test-op, Testv as testv-op}
-use Rattle.formula.specs.declared.Opcode.the-variants.{Bind as bind-op, Guard as guard-op, Tied as tied-op, Other as other-op}
+use Rattle.formula.specs.declared.Opcode.the-variants.{Bind as bind-op, Guard as guard-op, Tied as tied-op, Gather as gather-op, Other as other-op}
 use Rattle.formula.specs.Read.{opcode, allowed, room, operatorOf, kindOf, ExprNext, expression, failed, readExpr, Next, command, end, bad}
-use Rattle.formula.specs.Read.{operands, guardOf, operandsOf, next}
-use Rattle.base.proofs.Tests.{and-left, and-right}
-use Rattle.formula.proofs.Basics.{byte-case}
-use Rattle.formula.proofs.Order.{by-order, by-operands}
+use Rattle.formula.specs.Read.{isList, operands, guardOf, again, operandsOf, next}
+use Rattle.base.proofs.Tests.{and-left, and-right, and-false}
+use Rattle.formula.proofs.Basics.{byte-case, list-back, list-number, list-named}
+use Rattle.formula.proofs.Order.{by-order, by-operands, by-gather}
 use Rattle.formula.proofs.Exprs.{LeavesExist, Finds, expr-found, expr-read, value-below}
 
--- a command is allowed behind what the summary tells, and within the stated counts and depth
+-- a command is allowed behind what the summary tells, within the stated counts and depth, and gathers into no list a second time
 abbrev pub Fits : Summary → Command → Type 0
 Fits s (TIED v) = (s .states ≡ 0) × (s .tied < 8)
 Fits s (STATE k) = s .states < 16
 Fits s (STEP t) = (0 < s .states) × (s .closed ≡ false) × (s .steps < 8)
-Fits s (CLAUSE c) = (0 < s .steps) × (s .guarded ≡ false) × (s .clauses < 8)
+Fits s (CLAUSE c) = (0 < s .steps) × (s .guarded ≡ false) × (s .clauses < 8) × Fresh (s .gathered) c
 Fits s (GUARD e) = (0 < s .steps) × (s .guarded ≡ false) × (size e ≤ 31) × (depth e ≤ 8)
 
 -- its operands exist, states aside
@@ -42,6 +43,7 @@ Operands fields (STEP t) = Unit {0}
 Operands fields (CLAUSE (TEST f o v)) = (f < fields) × Value v
 Operands fields (CLAUSE (TESTV f o v)) = (f < fields) × Variable v
 Operands fields (CLAUSE (BIND f v)) = (f < fields) × Variable v
+Operands fields (CLAUSE (GATHER f v)) = (f < fields) × ListVariable v
 Operands fields (GUARD e) = LeavesExist e
 
 -- the command's bytes stand in front, and it is right there
@@ -72,6 +74,7 @@ Byte b testv-op = b ≡ 0x13
 Byte b bind-op = b ≡ 0x14
 Byte b guard-op = b ≡ 0x15
 Byte b tied-op = b ≡ 0x16
+Byte b gather-op = b ≡ 0x17
 Byte b other-op = Unit {0}
 
 byte-of : (b : ℕ) → Byte b (opcode b)
@@ -81,7 +84,9 @@ byte-of b =
     (byte-case Byte b 0x10 _ _ refl
     (byte-case Byte b 0x11 _ _ refl
     (byte-case Byte b 0x12 _ _ refl
-    (byte-case Byte b 0x13 _ _ refl (byte-case Byte b 0x14 _ _ refl (byte-case Byte b 0x15 _ _ refl (byte-case Byte b 0x16 _ _ refl tt)))))))
+    (byte-case Byte b 0x13 _ _ refl
+    (byte-case Byte b 0x14 _ _ refl
+    (byte-case Byte b 0x15 _ _ refl (byte-case Byte b 0x16 _ _ refl (byte-case Byte b 0x17 _ _ refl tt))))))))
 
 -- an operator or a kind that exists is that of its byte
 operator-back : (n : ℕ) → n < 6 → operatorByte (operatorOf n) ≡ n
@@ -105,7 +110,7 @@ operands-takes : (fields : ℕ) (s : Summary) (at b : ℕ) (ops : List ℕ) (wid
     → (width ≤ length ops → exist ≡ true → Taken fields s (b ∷ ops) c (1 + width)) → Takes fields s (b ∷ ops) (operands at ops width exist c)
 operands-takes fields s at b ops width exist c f = by-operands at ops width exist c (Takes fields s (b ∷ ops)) tt tt f
 
--- what the tests tell of a STEP, and of a TEST, TESTV or BIND
+-- what the tests tell of a STEP, and of a clause
 step-fits : (s : Summary) (t : ℕ) → allowed s step-op ≡ true → room s step-op ≡ true → Fits s (STEP t)
 step-fits s t a r = (
   ltb-true 0 (s .states) (and-left (ltb 0 (s .states)) (not (s .closed)) a),
@@ -113,12 +118,21 @@ step-fits s t a r = (
   ltb-true (s .steps) 8 r,
 )
 
-clause-fits : (s : Summary) (c : Clause) → ltb 0 (s .steps) && not (s .guarded) ≡ true → ltb (s .clauses) 8 ≡ true → Fits s (CLAUSE c)
-clause-fits s c a r = (
+clause-fits : (s : Summary) (c : Clause) → ltb 0 (s .steps) && not (s .guarded) ≡ true → ltb (s .clauses) 8 ≡ true → Fresh (s .gathered) c
+    → Fits s (CLAUSE c)
+clause-fits s c a r f = (
   ltb-true 0 (s .steps) (and-left (ltb 0 (s .steps)) (not (s .guarded)) a),
   not-true (s .guarded) (and-right (ltb 0 (s .steps)) (not (s .guarded)) a),
   ltb-true (s .clauses) 8 r,
+  f,
 )
+
+-- a list that is not gathered into again is fresh, and the other way round
+again-fresh : (seen : List Bool) (b : ℕ) → isList b ≡ true → again seen b ≡ false → getD seen (b - 8) false ≡ false
+again-fresh seen b h e = rw (and-left (leb 8 b) (ltb b 12) h) at e
+
+fresh-again : (seen : List Bool) (v : ℕ) → getD seen v false ≡ false → again seen (listByte v) ≡ false
+fresh-again seen v h = and-false (leb 8 (listByte v)) (getD seen (listByte v - 8) false) (rw (list-number v) h)
 
 state-taken : (fields : ℕ) (s : Summary) (b : ℕ) (ops : List ℕ) → b ≡ 0x10 → s .states < 16 → 1 ≤ length ops → ltb (getD ops 0 0) 4 ≡ true
     → Taken fields s (b ∷ ops) (STATE (kindOf (getD ops 0 0))) 2
@@ -138,8 +152,8 @@ unfolding encodeCommand
 tied-taken fields s b [] e r k v = absurd (not-suc-le-zero k)
 tied-taken fields s b (x ∷ xs) e r k v = record { behind = xs; bytes = rw e; used = refl; fits = r; operands = ltb-true x 8 v }
 
-test-taken : (fields : ℕ) (s : Summary) (b : ℕ) (ops : List ℕ) → Bytes ops → b ≡ 0x12 → ((c : Clause) → Fits s (CLAUSE c)) → 6 ≤ length ops
-    → ltb (getD ops 0 0) fields && ltb (getD ops 1 0) 6 ≡ true
+test-taken : (fields : ℕ) (s : Summary) (b : ℕ) (ops : List ℕ) → Bytes ops → b ≡ 0x12
+    → ((c : Clause) → Fresh (s .gathered) c → Fits s (CLAUSE c)) → 6 ≤ length ops → ltb (getD ops 0 0) fields && ltb (getD ops 1 0) 6 ≡ true
     → Taken fields s (b ∷ ops) (CLAUSE (TEST (getD ops 0 0) (operatorOf (getD ops 1 0)) (valueAt ops 2))) 7
 unfolding encodeCommand encodeClause bytesOf
 test-taken fields s b [] h e r k v = absurd (not-suc-le-zero k)
@@ -149,11 +163,12 @@ test-taken fields s b (x ∷ y ∷ ys) h e r k v =
       behind = drop 4 ys;
       bytes = rw (e, operator-back y (ltb-true y 6 (and-right (ltb x fields) (ltb y 6) v))) (ap (λ t. 0x12 ∷ x ∷ y ∷ t) (bytes-of-value (x ∷ y ∷ ys) 2 h k));
       used = refl;
-      fits = r (TEST x (operatorOf y) (valueAt (x ∷ y ∷ ys) 2));
+      fits = r (TEST x (operatorOf y) (valueAt (x ∷ y ∷ ys) 2)) tt;
       operands = (ltb-true x fields (and-left (ltb x fields) (ltb y 6) v), value-below (x ∷ y ∷ ys) 2 h);
     }
 
-testv-taken : (fields : ℕ) (s : Summary) (b : ℕ) (ops : List ℕ) → b ≡ 0x13 → ((c : Clause) → Fits s (CLAUSE c)) → 3 ≤ length ops
+testv-taken : (fields : ℕ) (s : Summary) (b : ℕ) (ops : List ℕ) → b ≡ 0x13
+    → ((c : Clause) → Fresh (s .gathered) c → Fits s (CLAUSE c)) → 3 ≤ length ops
     → ltb (getD ops 0 0) fields && ltb (getD ops 1 0) 6 && ltb (getD ops 2 0) 8 ≡ true
     → Taken fields s (b ∷ ops) (CLAUSE (TESTV (getD ops 0 0) (operatorOf (getD ops 1 0)) (getD ops 2 0))) 4
 unfolding encodeCommand encodeClause
@@ -166,11 +181,12 @@ testv-taken fields s b (x ∷ y ∷ z ∷ zs) e r k v =
       behind = zs;
       bytes = rw (e, operator-back y (ltb-true y 6 (and-right (ltb x fields) (ltb y 6) w)));
       used = refl;
-      fits = r (TESTV x (operatorOf y) z);
+      fits = r (TESTV x (operatorOf y) z) tt;
       operands = (ltb-true x fields (and-left (ltb x fields) (ltb y 6) w), ltb-true z 8 (and-right (ltb x fields && ltb y 6) (ltb z 8) v));
     }
 
-bind-taken : (fields : ℕ) (s : Summary) (b : ℕ) (ops : List ℕ) → b ≡ 0x14 → ((c : Clause) → Fits s (CLAUSE c)) → 2 ≤ length ops
+bind-taken : (fields : ℕ) (s : Summary) (b : ℕ) (ops : List ℕ) → b ≡ 0x14
+    → ((c : Clause) → Fresh (s .gathered) c → Fits s (CLAUSE c)) → 2 ≤ length ops
     → ltb (getD ops 0 0) fields && ltb (getD ops 1 0) 8 ≡ true → Taken fields s (b ∷ ops) (CLAUSE (BIND (getD ops 0 0) (getD ops 1 0))) 3
 unfolding encodeCommand encodeClause
 bind-taken fields s b [] e r k v = absurd (not-suc-le-zero k)
@@ -180,8 +196,25 @@ bind-taken fields s b (x ∷ y ∷ ys) e r k v =
       behind = ys;
       bytes = rw e;
       used = refl;
-      fits = r (BIND x y);
+      fits = r (BIND x y) tt;
       operands = (ltb-true x fields (and-left (ltb x fields) (ltb y 8) v), ltb-true y 8 (and-right (ltb x fields) (ltb y 8) v));
+    }
+
+gather-taken : (fields : ℕ) (s : Summary) (b : ℕ) (ops : List ℕ) → b ≡ 0x17 → ((c : Clause) → Fresh (s .gathered) c → Fits s (CLAUSE c))
+    → again (s .gathered) (getD ops 1 0) ≡ false → 2 ≤ length ops → ltb (getD ops 0 0) fields && isList (getD ops 1 0) ≡ true
+    → Taken fields s (b ∷ ops) (CLAUSE (GATHER (getD ops 0 0) (getD ops 1 0 - 8))) 3
+unfolding encodeCommand encodeClause
+gather-taken fields s b [] e r n k v = absurd (not-suc-le-zero k)
+gather-taken fields s b (x ∷ []) e r n k v = absurd (not-suc-le-zero (native.Mathlib.Nat.le-of-suc-le-suc k))
+gather-taken fields s b (x ∷ y ∷ ys) e r n k v =
+    let l = and-right (ltb x fields) (isList y) v in
+    let p = list-back y l in
+    record {
+      behind = ys;
+      bytes = rw e (ap (λ z. 0x17 ∷ x ∷ z ∷ ys) (p .0));
+      used = refl;
+      fits = r (GATHER x (y - 8)) (again-fresh (s .gathered) y l n);
+      operands = (ltb-true x fields (and-left (ltb x fields) (isList y) v), p .1);
     }
 
 guard-taken : (fields : ℕ) (s : Summary) (b : ℕ) (ops : List ℕ) (x : ExprNext) → b ≡ 0x15 → 0 < s .steps → s .guarded ≡ false → Finds 8 31 ops x
@@ -194,7 +227,7 @@ guard-taken fields s b ops (expression e u m) q h g f =
 guard-taken fields s b ops (failed r) q h g f = tt
 
 op-takes : (fields : ℕ) (s : Summary) (at b : ℕ) (ops : List ℕ) → Bytes ops → (w : Opcode) → Byte b w → allowed s w ≡ true → room s w ≡ true
-    → Takes fields s (b ∷ ops) (operandsOf fields at ops w)
+    → Takes fields s (b ∷ ops) (operandsOf fields (s .gathered) at ops w)
 op-takes fields s at b ops h end-op e a r = record { behind = ops; bytes = rw e; states = ltb-true 0 (s .states) a }
 op-takes fields s at b ops h state-op e a r = operands-takes fields s at b ops 1 _ _ (λ k v. state-taken fields s b ops e (ltb-true (s .states) 16 r) k v)
 op-takes fields s at b ops h step-op e a r = operands-takes fields s at b ops 1 true _ (λ k v. step-taken fields s b ops e (step-fits s (getD ops 0 0) a r) k)
@@ -205,6 +238,9 @@ op-takes fields s at b ops h guard-op e a r =
     guard-taken fields s b ops (readExpr 8 31 (at + 1) ops) e (ltb-true 0 (s .steps) a) (not-true (s .guarded) r) (expr-found 8 31 (at + 1) ops h)
 op-takes fields s at b ops h tied-op e a r =
     operands-takes fields s at b ops 1 _ _ (λ k v. tied-taken fields s b ops e (eqb-true (s .states) 0 a, ltb-true (s .tied) 8 r) k v)
+op-takes fields s at b ops h gather-op e a r =
+    by-gather fields (s .gathered) at ops (Takes fields s (b ∷ ops)) tt tt
+    (λ n. operands-takes fields s at b ops 2 _ _ (λ k v. gather-taken fields s b ops e (λ c. clause-fits s c a r) n k v))
 op-takes fields s at b ops h other-op e a r = tt
 
 -- whatever is taken as a command is its encoding, allowed there and with operands that exist
@@ -283,6 +319,17 @@ next-read fields s at (CLAUSE (BIND f v)) rest h o =
       le-ltb (length (f ∷ v ∷ rest)) 2 (omega arith),
       lt-ltb f fields (o .0),
       lt-ltb v 8 (o .1),
+    )
+next-read fields s at (CLAUSE (GATHER f v)) rest h o =
+    rw (
+      lt-ltb 0 (s .steps) (h .0),
+      h .1,
+      lt-ltb (s .clauses) 8 (h .2),
+      le-ltb (length (f ∷ listByte v ∷ rest)) 2 (omega arith),
+      fresh-again (s .gathered) v (h .3),
+      lt-ltb f fields (o .0),
+      list-named v (o .1),
+      list-number v,
     )
 next-read fields s at (GUARD e) rest h o =
     let q : 1 + length (encodeExpr e) ≡ suc (length (encodeExpr e)) = omega arith in

@@ -9,7 +9,7 @@ use lib.ListN.{length}
 use Rattle.base.specs.Lists.{All}
 use Rattle.formula.specs.Formula.{Expr, Clause, Step, State, Formula}
 use Rattle.formula.specs.Encode.{Command, TIED, STATE, STEP, CLAUSE, GUARD, guardCommands, stepCommands, stateCommands, commands}
-use Rattle.formula.specs.Correct.{isFinal, GuardFits, StepFits, StateFits}
+use Rattle.formula.specs.Correct.{isFinal, GuardFits, Once, StepFits, StateFits}
 use Rattle.formula.specs.declared.Summary.{Summary}
 use Rattle.formula.specs.Read.{start, advance}
 use Rattle.formula.proofs.Assembling.{Follows}
@@ -30,11 +30,12 @@ same : (s : Summary) → Same s s
 same s = record { states = refl; closed = refl; steps = refl }
 
 fit-clauses : (xs : List Clause) (s : Summary) (cs : List Command) → 0 < s .steps → s .guarded ≡ false → s .clauses + length xs ≤ 8
-    → ((t : Summary) → Same s t → t .guarded ≡ false → Follows t cs) → Follows s (map CLAUSE xs ++ cs)
-fit-clauses [] s cs h g k c = c s (same s) g
-fit-clauses (x ∷ xs) s cs h g k c = (
-  (h, g, omega arith),
-  fit-clauses xs (advance s (CLAUSE x)) cs h g (omega arith) (λ t e q. c t (record { states = e .states; closed = e .closed; steps = e .steps }) q),
+    → Once (s .gathered) xs → ((t : Summary) → Same s t → t .guarded ≡ false → Follows t cs) → Follows s (map CLAUSE xs ++ cs)
+fit-clauses [] s cs h g k o c = c s (same s) g
+fit-clauses (x ∷ xs) s cs h g k o c = (
+  (h, g, omega arith, o .0),
+  fit-clauses xs (advance s (CLAUSE x)) cs h g (omega arith) (o .1)
+      (λ t e q. c t (record { states = e .states; closed = e .closed; steps = e .steps }) q),
 )
 
 fit-guard : (o : Option Expr) (s : Summary) (cs : List Command) → 0 < s .steps → s .guarded ≡ false → GuardFits o
@@ -56,6 +57,7 @@ fit-steps (x ∷ xs) s cs h l k a c =
     ) (
       (h, l, omega arith),
       fit-clauses (x .clauses) s₁ (guardCommands (x .guard) ++ rest) (omega arith) refl (let b = a .0 .clauses in omega arith)
+          (a .0 .once)
           (λ t e q.
           fit-guard (x .guard) t rest (let b = e .steps in omega arith) q (a .0 .guard)
           (λ u i.
@@ -89,8 +91,9 @@ counts-follow f h =
     fit-tied (f .tied) start (flatMap stateCommands (f .states)) refl (omega arith) (λ t e. fit-states (f .states) t (omega arith) (h .each))
 
 -- what stands behind clauses, a guard, steps, TIEDs
-record AfterClauses (s : Summary) (n : ℕ) (cs : List Command) : Type 0 where
-  most : s .clauses + n ≤ 8
+record AfterClauses (s : Summary) (xs : List Clause) (cs : List Command) : Type 0 where
+  most : s .clauses + length xs ≤ 8
+  once : Once (s .gathered) xs
   after : Summary
   same : Same s after
   follows : Follows after cs
@@ -115,14 +118,15 @@ record AfterTied (s : Summary) (n : ℕ) (cs : List Command) : Type 0 where
   states : after .states ≡ s .states
   follows : Follows after cs
 
-count-clauses : (xs : List Clause) (s : Summary) (cs : List Command) → s .clauses ≤ 8 → Follows s (map CLAUSE xs ++ cs) → AfterClauses s (length xs) cs
-count-clauses [] s cs k h = record { most = omega arith; after = s; same = same s; follows = h }
+count-clauses : (xs : List Clause) (s : Summary) (cs : List Command) → s .clauses ≤ 8 → Follows s (map CLAUSE xs ++ cs) → AfterClauses s xs cs
+count-clauses [] s cs k h = record { most = omega arith; once = tt; after = s; same = same s; follows = h }
 count-clauses (x ∷ xs) s cs k h =
     let l = h .0 .2 in
     let i = count-clauses xs (advance s (CLAUSE x)) cs (omega arith) (h .1) in
     let m = i .most in
     record {
       most = omega arith;
+      once = (h .0 .3, i .once);
       after = i .after;
       same = record { states = i .same .states; closed = i .same .closed; steps = i .same .steps };
       follows = i .follows;
@@ -158,7 +162,7 @@ count-steps (x ∷ xs) s cs k h =
     let c₃ = c .states in
     record {
       most = omega arith;
-      each = (record { clauses = omega arith; guard = b .fits }, c .each);
+      each = (record { clauses = omega arith; once = a .once; guard = b .fits }, c .each);
       closed = λ e. absurd (true≢false (sym e ∙ h .0 .1));
       after = c .after;
       states = omega arith;

@@ -121,6 +121,107 @@ clause-behind : read
 unfolding read
 clause-behind = refl
 
+-- a step gathers into each of the four lists, and a guard reads them after it
+gather-lists : read
+    (0x10 ∷ 0 ∷ 0x11 ∷ 1 ∷ 0x17 ∷ 0 ∷ 8 ∷ 0x17 ∷ 1 ∷ 9 ∷ 0x17 ∷ 0 ∷ 10 ∷ 0x17 ∷ 1 ∷ 11 ∷ 0x15 ∷ 0x26 ∷ 0x2C ∷ 8 ∷ 0x23 ∷ 0x2D ∷ 9 ∷ 0x2E ∷ 11
+    ∷ 0x10 ∷ 2 ∷ 0 ∷ [])
+    ≡ line 0 0 0
+unfolding read
+gather-lists = refl
+
+-- a second GATHER into the same list is twice, at that GATHER
+gather-again : read (0x10 ∷ 0 ∷ 0x11 ∷ 1 ∷ 0x17 ∷ 0 ∷ 8 ∷ 0x17 ∷ 1 ∷ 8 ∷ 0x10 ∷ 2 ∷ 0 ∷ []) ≡ line 2 12 7
+unfolding read
+gather-again = refl
+
+-- twice comes before a field that does not exist
+gather-again-value : read (0x10 ∷ 0 ∷ 0x11 ∷ 1 ∷ 0x17 ∷ 0 ∷ 8 ∷ 0x17 ∷ 9 ∷ 8 ∷ 0x10 ∷ 2 ∷ 0 ∷ []) ≡ line 2 12 7
+unfolding read
+gather-again-value = refl
+
+-- cut short comes before twice
+gather-again-cut : read (0x10 ∷ 0 ∷ 0x11 ∷ 1 ∷ 0x17 ∷ 0 ∷ 8 ∷ 0x17 ∷ 0 ∷ []) ≡ line 2 1 7
+unfolding read
+gather-again-cut = refl
+
+-- the ninth clause is surplus before twice
+gather-ninth : read
+    (0x10 ∷ 0 ∷ 0x11 ∷ 1 ∷ 0x17 ∷ 0 ∷ 8 ∷ 0x17 ∷ 0 ∷ 9 ∷ 0x17 ∷ 0 ∷ 10 ∷ 0x17 ∷ 0 ∷ 11 ∷ 0x14 ∷ 0 ∷ 0 ∷ 0x14 ∷ 0 ∷ 0 ∷ 0x14 ∷ 0 ∷ 0 ∷ 0x14 ∷ 0
+    ∷ 0 ∷ 0x17 ∷ 0 ∷ 8 ∷ 0x10 ∷ 2 ∷ 0 ∷ [])
+    ≡ line 2 4 28
+unfolding read
+gather-ninth = refl
+
+-- a GATHER behind its step's GUARD is foreign
+gather-behind : read (0x10 ∷ 0 ∷ 0x11 ∷ 1 ∷ 0x17 ∷ 0 ∷ 8 ∷ 0x15 ∷ 0x2D ∷ 8 ∷ 0x17 ∷ 0 ∷ 8 ∷ 0x10 ∷ 2 ∷ 0 ∷ []) ≡ line 2 2 10
+unfolding read
+gather-behind = refl
+
+-- and one behind no STEP
+gather-first : read (0x10 ∷ 0 ∷ 0x17 ∷ 0 ∷ 8 ∷ 0 ∷ []) ≡ line 2 2 2
+unfolding read
+gather-first = refl
+
+-- another step may gather into the same list
+gather-other-step : read (0x10 ∷ 0 ∷ 0x11 ∷ 1 ∷ 0x17 ∷ 0 ∷ 8 ∷ 0x11 ∷ 1 ∷ 0x17 ∷ 0 ∷ 8 ∷ 0x10 ∷ 2 ∷ 0 ∷ []) ≡ line 0 0 0
+unfolding read
+gather-other-step = refl
+
+-- no variable below 8 is a list: 3, not 12
+gather-0-behind-8 : read (0x10 ∷ 0 ∷ 0x11 ∷ 1 ∷ 0x17 ∷ 0 ∷ 8 ∷ 0x17 ∷ 0 ∷ 0 ∷ 0x10 ∷ 2 ∷ 0 ∷ []) ≡ line 2 3 7
+unfolding read
+gather-0-behind-8 = refl
+
+-- nor is 12
+gather-12 : read (0x10 ∷ 0 ∷ 0x11 ∷ 1 ∷ 0x17 ∷ 0 ∷ 12 ∷ 0x10 ∷ 2 ∷ 0 ∷ []) ≡ line 2 3 4
+unfolding read
+gather-12 = refl
+
+-- a field that does not exist
+gather-field : read (0x10 ∷ 0 ∷ 0x11 ∷ 1 ∷ 0x17 ∷ 2 ∷ 8 ∷ 0x10 ∷ 2 ∷ 0 ∷ []) ≡ line 2 3 4
+unfolding read
+gather-field = refl
+
+-- a list is no variable of a VAR, BIND, TESTV or TIED
+var-8 : read (0x10 ∷ 0 ∷ 0x11 ∷ 1 ∷ 0x15 ∷ 0x21 ∷ 8 ∷ 0x10 ∷ 2 ∷ 0 ∷ []) ≡ line 2 3 5
+unfolding read
+var-8 = refl
+
+bind-8 : read (0x10 ∷ 0 ∷ 0x11 ∷ 1 ∷ 0x14 ∷ 0 ∷ 8 ∷ 0x10 ∷ 2 ∷ 0 ∷ []) ≡ line 2 3 4
+unfolding read
+bind-8 = refl
+
+testv-8 : read (0x10 ∷ 0 ∷ 0x11 ∷ 1 ∷ 0x13 ∷ 0 ∷ 0 ∷ 8 ∷ 0x10 ∷ 2 ∷ 0 ∷ []) ≡ line 2 3 4
+unfolding read
+testv-8 = refl
+
+tied-8 : read (0x16 ∷ 8 ∷ 0x10 ∷ 0 ∷ 0 ∷ []) ≡ line 2 3 0
+unfolding read
+tied-8 = refl
+
+-- a variable is no list of a SUM, LENGTH or DIFFERENT
+sum-7 : read (0x10 ∷ 0 ∷ 0x11 ∷ 1 ∷ 0x15 ∷ 0x2C ∷ 7 ∷ 0x10 ∷ 2 ∷ 0 ∷ []) ≡ line 2 3 5
+unfolding read
+sum-7 = refl
+
+length-12 : read (0x10 ∷ 0 ∷ 0x11 ∷ 1 ∷ 0x15 ∷ 0x2D ∷ 12 ∷ 0x10 ∷ 2 ∷ 0 ∷ []) ≡ line 2 3 5
+unfolding read
+length-12 = refl
+
+different-0 : read (0x10 ∷ 0 ∷ 0x11 ∷ 1 ∷ 0x15 ∷ 0x2E ∷ 0 ∷ 0x10 ∷ 2 ∷ 0 ∷ []) ≡ line 2 3 5
+unfolding read
+different-0 = refl
+
+-- cut short comes before that
+sum-cut : read (0x10 ∷ 0 ∷ 0x11 ∷ 1 ∷ 0x15 ∷ 0x2C ∷ []) ≡ line 2 1 5
+unfolding read
+sum-cut = refl
+
+-- depth 9 is surplus for them too
+list-deep-9 : read (0x10 ∷ 0 ∷ 0x11 ∷ 1 ∷ 0x15 ∷ 0x28 ∷ 0x28 ∷ 0x28 ∷ 0x28 ∷ 0x28 ∷ 0x28 ∷ 0x28 ∷ 0x28 ∷ 0x2C ∷ 8 ∷ 0x10 ∷ 2 ∷ 0 ∷ []) ≡ line 2 4 13
+unfolding read
+list-deep-9 = refl
+
 -- leftover comes before an absent state
 leftover-first : read (0x10 ∷ 0 ∷ 0x11 ∷ 5 ∷ 0 ∷ 7 ∷ []) ≡ line 2 5 5
 unfolding read

@@ -1,6 +1,7 @@
 -- Reading an expression: what is read is the encoding of the expression it gives, within depth and count, and every such encoding is read as its expression.
 use Prim.Native.Nat.{ℕ, zero, suc, _+_, _-_, _<_, _≤_, max}
 use mathlib.Core.Path.{_≡_, refl, sym, ap, _∙_}
+use mathlib.Core.Bool.{true}
 use mathlib.Core.List.{List, [], _∷_, _++_, append-assoc}
 use native.Mathlib.Omega.{arith}
 use native.Mathlib.Nat.{not-suc-le-zero}
@@ -12,18 +13,21 @@ use Rattle.base.specs.Lists.{Bytes}
 use Rattle.base.specs.Value.{bytesOf, valueAt}
 use Rattle.base.proofs.Tests.{cond-holds}
 use Rattle.base.proofs.Values.{bytes-of-value, value-of-bytes, byte-below}
-use Rattle.formula.specs.Formula.{Leaf, CONST, VAR, COUNT, Expr, LEAF, ADD, SUB, LESS, ATMOST, EQUAL, NOT, AND, OR, IF}
-use Rattle.formula.specs.Encode.{encodeExpr}
-use Rattle.formula.specs.Correct.{size, depth, Leaves, Value, Variable}
-use Rattle.formula.specs.Read.{ExprNext, expression, failed, ExprOpcode, const-op, var-op, count-op, unary, binary, ternary, foreign-op}
-use Rattle.formula.specs.Read.{exprOpcode, overOf, over, andThen, exprOf, exprWith, readExpr}
-use Rattle.formula.proofs.Basics.{byte-case, bytes-drop, behind}
+use Rattle.formula.specs.Formula.{Leaf, CONST, VAR, COUNT, SUM, LENGTH, DIFFERENT, Expr, LEAF, ADD, SUB, LESS, ATMOST, EQUAL, NOT, AND, OR, IF}
+use Rattle.formula.specs.Encode.{listByte, encodeLeaf, encodeExpr}
+use Rattle.formula.specs.Correct.{size, depth, Leaves, Value, Variable, ListVariable}
+use Rattle.formula.specs.Read.{ExprNext, expression, failed, ExprOpcode, const-op, var-op, count-op, list-op, unary, binary, ternary, foreign-op}
+use Rattle.formula.specs.Read.{exprOpcode, isList, overOf, over, andThen, exprOf, exprWith, readExpr}
+use Rattle.formula.proofs.Basics.{byte-case, bytes-drop, behind, list-back, list-number, list-named}
 
 -- what a leaf must be where it is read
 abbrev pub LeafReads : Leaf → Type 0
 LeafReads (CONST v) = Value v
 LeafReads (VAR v) = Variable v
 LeafReads (COUNT s) = Unit {0}
+LeafReads (SUM v) = ListVariable v
+LeafReads (LENGTH v) = ListVariable v
+LeafReads (DIFFERENT v) = ListVariable v
 
 abbrev pub LeavesExist : Expr → Type 0
 LeavesExist e = Leaves LeafReads e
@@ -41,7 +45,11 @@ abbrev pub Finds : ℕ → ℕ → List ℕ → ExprNext → Type 0
 Finds d n rest (expression e u m) = Found d n rest e u m
 Finds d n rest (failed r) = Unit {0}
 
--- what the opcodes with operands build
+-- what the opcodes of lists, and those with operands, build
+record OfList (c : ℕ) (mk : ℕ → Leaf) : Type 0 where
+  bytes : (v : ℕ) → encodeLeaf (mk v) ≡ c ∷ listByte v ∷ []
+  exists : (v : ℕ) → ListVariable v → LeafReads (mk v)
+
 record Unary (c : ℕ) (mk : Expr → Expr) : Type 0 where
   bytes : (a : Expr) → encodeExpr (mk a) ≡ c ∷ encodeExpr a
   size-is : (a : Expr) → size (mk a) ≡ suc (size a)
@@ -64,6 +72,7 @@ abbrev Names : ℕ → ExprOpcode → Type 0
 Names c const-op = c ≡ 0x20
 Names c var-op = c ≡ 0x21
 Names c count-op = c ≡ 0x22
+Names c (list-op mk) = OfList c mk
 Names c (unary mk) = Unary c mk
 Names c (binary mk) = Binary c mk
 Names c (ternary mk) = Ternary c mk
@@ -85,7 +94,9 @@ names c =
     (byte-case Names c 0x29 _ _ record { bytes = λ a b. refl; size-is = λ a b. refl; depth-is = λ a b. refl; leaves = λ a b x y. (x, y) }
     (byte-case Names c 0x2A _ _ record { bytes = λ a b. refl; size-is = λ a b. refl; depth-is = λ a b. refl; leaves = λ a b x y. (x, y) }
     (byte-case Names c 0x2B _ _ record { bytes = λ a b e. refl; size-is = λ a b e. refl; depth-is = λ a b e. refl; leaves = λ a b e x y z. (x, y, z) }
-    tt)))))))))))
+    (byte-case Names c 0x2C _ _ record { bytes = λ v. refl; exists = λ v h. h }
+    (byte-case Names c 0x2D _ _ record { bytes = λ v. refl; exists = λ v h. h }
+    (byte-case Names c 0x2E _ _ record { bytes = λ v. refl; exists = λ v h. h } tt))))))))))))))
 
 then-finds : (d n : ℕ) (rest : List ℕ) (d₁ n₁ : ℕ) (rest₁ : List ℕ) (x : ExprNext) (k : Expr → ℕ → ℕ → ExprNext) → Finds d n rest x
     → ((e : Expr) (u m : ℕ) → Found d n rest e u m → Finds d₁ n₁ rest₁ (k e u m)) → Finds d₁ n₁ rest₁ (andThen x k)
@@ -101,6 +112,7 @@ over-finds d n at (b ∷ ops) = go (exprOpcode b)
     go const-op = tt
     go var-op = tt
     go count-op = tt
+    go (list-op mk) = tt
     go (unary mk) = tt
     go (binary mk) = tt
     go (ternary mk) = tt
@@ -141,6 +153,22 @@ count-found : (d n c : ℕ) (ops : List ℕ) → c ≡ 0x22 → 1 ≤ length ops
 unfolding encodeExpr size depth
 count-found d n c [] e k = absurd (not-suc-le-zero k)
 count-found d n c (x ∷ xs) e k = record { behind = xs; bytes = rw e; used = refl; left = omega arith; deep = omega arith; leaves = tt }
+
+list-found : (d n c : ℕ) (mk : ℕ → Leaf) (ops : List ℕ) → OfList c mk → 1 ≤ length ops → isList (getD ops 0 0) ≡ true
+    → Found (suc d) (suc n) (c ∷ ops) (LEAF (mk (getD ops 0 0 - 8))) 2 n
+unfolding encodeExpr size depth
+list-found d n c mk [] e k v = absurd (not-suc-le-zero k)
+list-found d n c mk (x ∷ xs) e k v =
+    let p = list-back x v in
+    let b = e .bytes (x - 8) in
+    record {
+      behind = xs;
+      bytes = rw b (ap (λ y. c ∷ y ∷ xs) (p .0));
+      used = rw b;
+      left = omega arith;
+      deep = omega arith;
+      leaves = e .exists (x - 8) (p .1);
+    }
 
 unary-found : (d n c : ℕ) (mk : Expr → Expr) (ops : List ℕ) (a : Expr) (u m : ℕ) → Unary c mk → Found d n ops a u m
     → Found (suc d) (suc n) (c ∷ ops) (mk a) (1 + u) m
@@ -226,6 +254,10 @@ exprOf-finds d op s n at c ops h var-op e =
     (λ p. var-found d n c ops e (ltb-false (length ops) 1 q) (ltb-true (getD ops 0 0) 8 p)) (λ p. tt))
 exprOf-finds d op s n at c ops h count-op e =
     cond-holds (Finds (suc d) (suc n) (c ∷ ops)) (ltb (length ops) 1) _ _ (λ q. tt) (λ q. count-found d n c ops e (ltb-false (length ops) 1 q))
+exprOf-finds d op s n at c ops h (list-op mk) e =
+    cond-holds (Finds (suc d) (suc n) (c ∷ ops)) (ltb (length ops) 1) _ _ (λ q. tt)
+    (λ q.
+    cond-holds (Finds (suc d) (suc n) (c ∷ ops)) (isList (getD ops 0 0)) _ _ (λ p. list-found d n c mk ops e (ltb-false (length ops) 1 q) p) (λ p. tt))
 exprOf-finds d op s n at c ops h (unary mk) e =
     then-finds d n ops (suc d) (suc n) (c ∷ ops) (op n (at + 1) ops) _ (s n (at + 1) ops h) (λ a u m f. unary-found d n c mk ops a u m e f)
 exprOf-finds d op s n at c ops h (binary mk) e =
@@ -276,6 +308,13 @@ unfolding Reads exprWith exprOpcode
 count-reads op s m at rest =
     let e : 1 + m ≡ suc m = omega arith in
     rw (e, le-ltb (length (s ∷ rest)) 1 (omega arith))
+
+list-reads : (op : ℕ → ℕ → List ℕ → ExprNext) (c : ℕ) (mk : ℕ → Leaf) (v : ℕ) → exprOpcode c ≡ list-op mk → ListVariable v
+    → Reads (exprWith op) (c ∷ listByte v ∷ []) (LEAF (mk v)) 1
+unfolding Reads exprWith
+list-reads op c mk v q h m at rest =
+    let e : 1 + m ≡ suc m = omega arith in
+    rw (e, q, le-ltb (length (listByte v ∷ rest)) 1 (omega arith), list-named v h, list-number v)
 
 unary-reads : (op : ℕ → ℕ → List ℕ → ExprNext) (c : ℕ) (mk : Expr → Expr) (xa : List ℕ) (a : Expr) (ka : ℕ) → exprOpcode c ≡ unary mk
     → Reads op xa a ka → Reads (exprWith op) (c ∷ xa) (mk a) (suc ka)
@@ -346,6 +385,9 @@ expr-reads zero e h l = absurd (not-suc-le-zero (native.Mathlib.Nat.le-trans (de
 expr-reads (suc d) (LEAF (CONST v)) h l = const-reads (readExpr d) v l
 expr-reads (suc d) (LEAF (VAR v)) h l = var-reads (readExpr d) v l
 expr-reads (suc d) (LEAF (COUNT s)) h l = count-reads (readExpr d) s
+expr-reads (suc d) (LEAF (SUM v)) h l = list-reads (readExpr d) 0x2C SUM v refl l
+expr-reads (suc d) (LEAF (LENGTH v)) h l = list-reads (readExpr d) 0x2D LENGTH v refl l
+expr-reads (suc d) (LEAF (DIFFERENT v)) h l = list-reads (readExpr d) 0x2E DIFFERENT v refl l
 expr-reads (suc d) (ADD a b) h l =
     binary-reads (readExpr d) 0x23 ADD (encodeExpr a) (encodeExpr b) a b (size a) (size b) refl
     (expr-reads d a (first (depth a) (depth b) d h) (l .0)) (expr-reads d b (second (depth a) (depth b) d h) (l .1))

@@ -1,24 +1,27 @@
--- "The first bad command decides; within one the order is 2, 4, 1, 3. After END: 5; then 3 for the first STEP or COUNT naming an absent state; then
--- 7; then 8": each refusal, whatever else is wrong that comes later in this order.
-use Prim.Native.Nat.{ℕ, zero, suc, _+_, _<_, _≤_}
+-- "The first bad command decides; within one the order is 2, 4, 1, 3", 12 "after 4 and 1 and before 3". "After END: 5; then 3 for the first STEP or
+-- COUNT naming an absent state; then 7; then 8": each refusal, whatever else is wrong that comes later in this order.
+use Prim.Native.Nat.{ℕ, zero, suc, _+_, _-_, _<_, _≤_}
 use mathlib.Core.Path.{_≡_, refl, sym, subst}
 use mathlib.Core.Logic.{_⊎_, inl, inr}
-use mathlib.Core.Bool.{Bool, true, false}
+use mathlib.Core.Bool.{Bool, true, false, _&&_}
 use mathlib.Core.List.{List, [], _∷_}
 use mathlib.Core.Option.{none, some}
 use native.Mathlib.Omega.{arith}
 use borrow.Author.Tests.{ltb-true, ltb-false, lt-ltb, le-ltb}
 use lib.Dec.{ltb}
-use lib.ListN.{length}
+use lib.ListN.{length, getD}
+use Rattle.base.proofs.Tests.{cond-holds}
 use Rattle.refusal.specs.declared.File.the-variants.{Formula as InFormula}
-use Rattle.refusal.specs.declared.Refusal.the-variants.{CutShort, Foreign, Value, Surplus, Leftover, DeadStart, Unbound as UnboundAt}
-use Rattle.formula.specs.Formula.{Formula}
-use Rattle.formula.specs.Encode.{Command, commands}
+use Rattle.refusal.specs.declared.Refusal.the-variants.{CutShort, Foreign, Value, Surplus, Leftover, DeadStart, Unbound as UnboundAt, Twice}
+use Rattle.formula.specs.Formula.{GATHER, Formula}
+use Rattle.formula.specs.Encode.{Command, CLAUSE, commands}
 use Rattle.formula.specs.Unbound.{isUnbound}
 use Rattle.formula.specs.Correct.{deadStart}
 use Rattle.formula.specs.declared.Summary.{Summary}
-use Rattle.formula.specs.Read.{accepted, refused, opcode, allowed, room, failed, ExprOpcode, const-op, var-op, count-op, unary, binary, ternary}
-use Rattle.formula.specs.Read.{foreign-op, exprOpcode, overOf, over, exprWith, readExpr, Next, command, bad, operands, operandsOf, next}
+use Rattle.formula.specs.declared.Opcode.the-variants.{Gather as gather-op}
+use Rattle.formula.specs.Read.{accepted, refused, opcode, allowed, room, failed, ExprOpcode, const-op, var-op, count-op, list-op, unary, binary}
+use Rattle.formula.specs.Read.{ternary, foreign-op, exprOpcode, overOf, over, isList, exprWith, readExpr, Next, command, bad, operands, again}
+use Rattle.formula.specs.Read.{operandsOf, next}
 use Rattle.formula.specs.Read.{firstAbsent, firstUnbound, judge, afterEnd}
 
 -- the command of byte b, with the bytes `ops` behind it
@@ -34,13 +37,14 @@ module _ (fields : ℕ) (s : Summary) (at b : ℕ) (ops : List ℕ) where
   then-surplus a r = rw (a, r)
 
   -- where there is room too, its operands decide
-  pub then-operands : allowed s (opcode b) ≡ true → room s (opcode b) ≡ true → next fields s at (b ∷ ops) ≡ operandsOf fields at ops (opcode b)
+  pub then-operands : allowed s (opcode b) ≡ true → room s (opcode b) ≡ true → next fields s at (b ∷ ops) ≡ operandsOf fields (s .gathered) at ops (opcode b)
   unfolding next
   then-operands a r = rw (a, r)
 
   -- the three together: what holds of each answer holds of the next command
   pub by-order : (P : Next → Type 0) → P (bad (Foreign InFormula at)) → P (bad (Surplus InFormula at))
-      → (allowed s (opcode b) ≡ true → room s (opcode b) ≡ true → P (operandsOf fields at ops (opcode b))) → P (next fields s at (b ∷ ops))
+      → (allowed s (opcode b) ≡ true → room s (opcode b) ≡ true → P (operandsOf fields (s .gathered) at ops (opcode b)))
+      → P (next fields s at (b ∷ ops))
   by-order P f g h = go (allowed s (opcode b)) (room s (opcode b)) refl refl
     where
       go : (a r : Bool) → allowed s (opcode b) ≡ a → room s (opcode b) ≡ r → P (next fields s at (b ∷ ops))
@@ -74,6 +78,33 @@ module _ (at : ℕ) (ops : List ℕ) (width : ℕ) (exist : Bool) (c : Command) 
           let k = ltb-false (length ops) width x in
           subst P (sym (then-taken k y)) (h k y)
 
+-- a GATHER, where `seen` marks the lists that its step gathers into
+module _ (fields : ℕ) (seen : List Bool) (at : ℕ) (ops : List ℕ) where
+  -- the command, if its operands exist
+  abbrev pub gatherOf : Next
+  gatherOf = operands at ops 2 (ltb (getD ops 0 0) fields && isList (getD ops 1 0)) (CLAUSE (GATHER (getD ops 0 0) (getD ops 1 0 - 8)))
+
+  -- 1 comes first
+  pub gather-cut-short : length ops < 2 → operandsOf fields seen at ops gather-op ≡ bad (CutShort InFormula at)
+  gather-cut-short h = rw (lt-ltb (length ops) 2 h)
+
+  -- 12: its step gathers into that list already, whether or not the field exists
+  pub then-twice : 2 ≤ length ops → again seen (getD ops 1 0) ≡ true → operandsOf fields seen at ops gather-op ≡ bad (Twice at)
+  then-twice h e = rw (le-ltb (length ops) 2 h, e)
+
+  -- then 3, or nothing is wrong
+  pub then-once : again seen (getD ops 1 0) ≡ false → operandsOf fields seen at ops gather-op ≡ gatherOf
+  then-once e = go (ltb (length ops) 2) refl
+    where
+      go : (b : Bool) → ltb (length ops) 2 ≡ b → operandsOf fields seen at ops gather-op ≡ gatherOf
+      go true k = rw k
+      go false k = rw (k, e)
+
+  -- the three together, as above
+  pub by-gather : (P : Next → Type 0) → P (bad (CutShort InFormula at)) → P (bad (Twice at)) → (again seen (getD ops 1 0) ≡ false → P gatherOf)
+      → P (operandsOf fields seen at ops gather-op)
+  by-gather P f g h = cond-holds P (ltb (length ops) 2) _ _ (λ k. f) (λ k. cond-holds P (again seen (getD ops 1 0)) _ _ (λ e. g) h)
+
 -- 2 within an expression: what begins no expression is foreign, also one over the depth or the count
 pub expr-foreign-first : (d left at b : ℕ) (ops : List ℕ) → exprOpcode b ≡ foreign-op → readExpr d left at (b ∷ ops) ≡ failed (Foreign InFormula at)
 unfolding readExpr exprWith over
@@ -86,6 +117,7 @@ over-surplus : (at : ℕ) (o : ExprOpcode) → ¬ (o ≡ foreign-op) → overOf 
 over-surplus at const-op n = refl
 over-surplus at var-op n = refl
 over-surplus at count-op n = refl
+over-surplus at (list-op mk) n = refl
 over-surplus at (unary mk) n = refl
 over-surplus at (binary mk) n = refl
 over-surplus at (ternary mk) n = refl

@@ -12,7 +12,7 @@ use Rattle.base.proofs.Tests.{cond-holds}
 use Rattle.base.proofs.Lists.{All-append, flatMap-append}
 use Rattle.base.specs.Lists.{All, Bytes}
 use Rattle.refusal.specs.declared.Refusal.{Refusal}
-use Rattle.formula.specs.Formula.{TEST, TESTV, BIND, Formula}
+use Rattle.formula.specs.Formula.{TEST, TESTV, BIND, GATHER, Formula}
 use Rattle.formula.specs.Encode.{Command, TIED, STATE, STEP, CLAUSE, GUARD, commands, encodeClause, encodeCommand, encode}
 use Rattle.formula.specs.Unbound.{isUnbound}
 use Rattle.formula.specs.Correct.{Exists, deadStart, Correct}
@@ -177,6 +177,7 @@ encode-long (STEP t) = omega arith
 encode-long (CLAUSE (TEST f o v)) = omega arith
 encode-long (CLAUSE (TESTV f o v)) = omega arith
 encode-long (CLAUSE (BIND f v)) = omega arith
+encode-long (CLAUSE (GATHER f v)) = omega arith
 encode-long (GUARD e) = omega arith
 
 commands-short : (cs : List Command) → length cs ≤ length (flatMap encodeCommand cs)

@@ -1,4 +1,4 @@
--- What a formula is refused with: one of the refusals 1 to 5, 7 and 8, of the formula, at a place in the file or at its end.
+-- What a formula is refused with: one of the refusals 1 to 5, 7, 8 and 12, of the formula, at a place in the file or at its end.
 use Prim.Native.Nat.{ℕ, zero, suc, _+_, _-_, _≤_}
 use mathlib.Core.Path.{_≡_, refl, ap, subst, _∙_}
 use mathlib.Core.Bool.{Bool, true, false, cond, not, _&&_}
@@ -13,8 +13,8 @@ use Rattle.base.proofs.Lists.{flatMap-append}
 use Rattle.base.specs.Value.{bytesOf, valueAt}
 use Rattle.refusal.specs.declared.File.the-variants.{Formula as InFormula}
 use Rattle.refusal.specs.declared.Refusal.{Refusal}
-use Rattle.refusal.specs.declared.Refusal.the-variants.{CutShort, Foreign, Value, Surplus, Leftover, DeadStart, Unbound as UnboundAt}
-use Rattle.formula.specs.Formula.{Leaf, Expr, LEAF, ADD, SUB, LESS, ATMOST, EQUAL, NOT, AND, OR, IF, Clause, TEST, TESTV, BIND, Formula}
+use Rattle.refusal.specs.declared.Refusal.the-variants.{CutShort, Foreign, Value, Surplus, Leftover, DeadStart, Unbound as UnboundAt, Twice}
+use Rattle.formula.specs.Formula.{Leaf, Expr, LEAF, ADD, SUB, LESS, ATMOST, EQUAL, NOT, AND, OR, IF, Clause, TEST, TESTV, BIND, GATHER, Formula}
 use Rattle.formula.specs.Encode.{Command, TIED, STATE, STEP, CLAUSE, GUARD, guardCommands, stepCommands, stateCommands, commands, encodeExpr}
 use Rattle.formula.specs.Encode.{encodeClause, encodeCommand}
 use Rattle.formula.specs.Unbound.{isUnbound}
@@ -22,12 +22,13 @@ use Rattle.formula.specs.Correct.{deadStart}
 use Rattle.formula.specs.declared.Summary.{Summary}
 use Rattle.formula.specs.declared.Opcode.{Opcode}
 use Rattle.formula.specs.declared.Opcode.the-variants.{End as end-op, State as state-op, Step as step-op, Test as test-op, Testv as testv-op}
-use Rattle.formula.specs.declared.Opcode.the-variants.{Bind as bind-op, Guard as guard-op, Tied as tied-op, Other as other-op}
+use Rattle.formula.specs.declared.Opcode.the-variants.{Bind as bind-op, Guard as guard-op, Tied as tied-op, Gather as gather-op, Other as other-op}
 use Rattle.formula.specs.Read.{Reading, accepted, refused, start, advance, opcode, allowed, room, operatorOf, kindOf, ExprNext, expression}
-use Rattle.formula.specs.Read.{failed, ExprOpcode, const-op, var-op, count-op, unary, binary, ternary, foreign-op, exprOpcode, overOf, over}
-use Rattle.formula.specs.Read.{andThen, exprOf, exprWith, readExpr, Next, command, end, bad, operands, guardOf, operandsOf, next, Assembly}
+use Rattle.formula.specs.Read.{failed, ExprOpcode, const-op, var-op, count-op, list-op, unary, binary, ternary, foreign-op, exprOpcode, overOf, over}
+use Rattle.formula.specs.Read.{isList, andThen, exprOf, exprWith, readExpr, Next, command, end, bad, operands, guardOf, operandsOf, next, Assembly}
 use Rattle.formula.specs.Read.{inFront, assembly, assemble, orElse, when, firstLeaf, absentLeaf, absentIn, firstAbsent, seenAfter, ownAfter}
 use Rattle.formula.specs.Read.{unboundLeaf, unboundIn, firstUnbound, refusedAt, judge, afterEnd, follow, readFrom, readFormula}
+use Rattle.formula.proofs.Order.{by-gather}
 use Rattle.formula.proofs.Reading.{encode-snoc}
 
 -- a refusal of a formula with n bytes
@@ -39,12 +40,14 @@ pub data FormulaRefusal (n : ℕ) : Refusal → Type 0 where
   leftover : {p : ℕ} → p ≤ n → FormulaRefusal n (Leftover InFormula p)
   dead-start : FormulaRefusal n DeadStart
   unbound : {p : ℕ} → p ≤ n → FormulaRefusal n (UnboundAt p)
+  twice : {p : ℕ} → p ≤ n → FormulaRefusal n (Twice p)
 
--- an expression with operands has one byte more than they have
+-- an expression of a list has two bytes, one with operands one byte more than they have
 abbrev OneMore : ExprOpcode → Type 0
 OneMore const-op = Unit {0}
 OneMore var-op = Unit {0}
 OneMore count-op = Unit {0}
+OneMore (list-op mk) = (v : ℕ) → length (encodeExpr (LEAF (mk v))) ≡ 2
 OneMore (unary mk) = (a : Expr) → length (encodeExpr (mk a)) ≡ suc (length (encodeExpr a))
 OneMore (binary mk) = (a b : Expr) → length (encodeExpr (mk a b)) ≡ suc (length (encodeExpr a) + length (encodeExpr b))
 OneMore (ternary mk) = (a b c : Expr) → length (encodeExpr (mk a b c)) ≡ suc (length (encodeExpr a) + (length (encodeExpr b) + length (encodeExpr c)))
@@ -76,7 +79,8 @@ one-more b =
     (one-of (eqb b 0x28) _ _ (λ a. refl)
     (one-of (eqb b 0x29) _ _ two
     (one-of (eqb b 0x2A) _ _ two
-    (one-of (eqb b 0x2B) _ _ three tt)))))))))))
+    (one-of (eqb b 0x2B) _ _ three
+    (one-of (eqb b 0x2C) _ _ (λ v. refl) (one-of (eqb b 0x2D) _ _ (λ v. refl) (one-of (eqb b 0x2E) _ _ (λ v. refl) tt))))))))))))))
 
 -- COMMANDS, in a file of n bytes, where the bytes bs stand from offset `at` on
 module _ (n : ℕ) where
@@ -102,6 +106,7 @@ module _ (n : ℕ) where
       go const-op = surplus h
       go var-op = surplus h
       go count-op = surplus h
+      go (list-op mk) = surplus h
       go (unary mk) = surplus h
       go (binary mk) = surplus h
       go (ternary mk) = surplus h
@@ -122,6 +127,11 @@ module _ (n : ℕ) where
         leaf-tells 1 _
         (λ k. cond-holds (ExprTells (b ∷ ops)) (ltb (getD ops 0 0) 8) _ _ (λ t. (refl, omega arith)) (λ t. value {p = at} (omega arith)))
     of-tells count-op g = leaf-tells 1 _ (λ k. (refl, omega arith))
+    of-tells (list-op mk) g =
+        leaf-tells 1 _
+        (λ k.
+        cond-holds (ExprTells (b ∷ ops)) (isList (getD ops 0 0)) _ _ (λ t. (omega (arith, g (getD ops 0 0 - 8)), omega arith))
+        (λ t. value {p = at} (omega arith)))
     of-tells (unary mk) g =
         then-tells ops (b ∷ ops) (op left (at + 1) ops) _ (tells left (at + 1) ops (omega arith)) (λ a u m e i. (omega (arith, g a), omega arith))
     of-tells (binary mk) g =
@@ -160,13 +170,13 @@ module _ (n : ℕ) where
   guard-tells b ops (expression e u m) h = (omega (arith, h .0), omega (arith, h .1))
   guard-tells b ops (failed r) h = h
 
-  module _ (fields at b : ℕ) (ops : List ℕ) (here : at + suc (length ops) ≡ n) where
+  module _ (fields : ℕ) (seen : List Bool) (at b : ℕ) (ops : List ℕ) (here : at + suc (length ops) ≡ n) where
     operands-tell : (width : ℕ) (exist : Bool) (c : Command) → 1 + width ≡ length (encodeCommand c) → Tells (b ∷ ops) (operands at ops width exist c)
     operands-tell width exist c e =
         cond-holds (Tells (b ∷ ops)) (ltb (length ops) width) _ _ (λ t. cut-short {p = at} (omega arith))
         (λ t. cond-holds (Tells (b ∷ ops)) exist _ _ (λ s. (e, omega (arith, ltb-false (length ops) width t))) (λ s. value {p = at} (omega arith)))
 
-    opcode-tells : (w : Opcode) → Tells (b ∷ ops) (operandsOf fields at ops w)
+    opcode-tells : (w : Opcode) → Tells (b ∷ ops) (operandsOf fields seen at ops w)
     unfolding encodeCommand encodeClause bytesOf
     opcode-tells end-op = omega arith
     opcode-tells state-op = operands-tell 1 (ltb (getD ops 0 0) 4) (STATE (kindOf (getD ops 0 0))) refl
@@ -180,6 +190,9 @@ module _ (n : ℕ) where
     opcode-tells bind-op = operands-tell 2 (ltb (getD ops 0 0) fields && ltb (getD ops 1 0) 8) (CLAUSE (BIND (getD ops 0 0) (getD ops 1 0))) refl
     opcode-tells guard-op = guard-tells b ops (readExpr 8 31 (at + 1) ops) (expr-tells 8 31 (at + 1) ops (omega arith))
     opcode-tells tied-op = operands-tell 1 (ltb (getD ops 0 0) 8) (TIED (getD ops 0 0)) refl
+    opcode-tells gather-op =
+        by-gather fields seen at ops (Tells (b ∷ ops)) (cut-short {p = at} (omega arith)) (twice {p = at} (omega arith))
+        (λ k. operands-tell 2 (ltb (getD ops 0 0) fields && isList (getD ops 1 0)) (CLAUSE (GATHER (getD ops 0 0) (getD ops 1 0 - 8))) refl)
     opcode-tells other-op = foreign {p = at} (omega arith)
 
   next-tells : (fields : ℕ) (s : Summary) (at : ℕ) (bs : List ℕ) → at + length bs ≡ n → Tells bs (next fields s at bs)
@@ -187,7 +200,8 @@ module _ (n : ℕ) where
   next-tells fields s at [] h = cut-short {p = at} (omega arith)
   next-tells fields s at (b ∷ ops) h =
       cond-holds (Tells (b ∷ ops)) (allowed s (opcode b)) _ _
-      (λ a. cond-holds (Tells (b ∷ ops)) (room s (opcode b)) _ _ (λ r. opcode-tells fields at b ops h (opcode b)) (λ r. surplus {p = at} (omega arith)))
+      (λ a. cond-holds (Tells (b ∷ ops)) (room s (opcode b)) _ _ (λ r. opcode-tells fields (s .gathered) at b ops h (opcode b))
+      (λ r. surplus {p = at} (omega arith)))
       (λ a. foreign {p = at} (omega arith))
 
 -- AFTER END: the place that is found, if there is one, is at most n
@@ -267,6 +281,7 @@ module _ (n : ℕ) (open-at : ℕ → ℕ → Bool) where
   unbound-within seen own at (CLAUSE (TEST f o x)) h = nowhere
   unbound-within seen own at (CLAUSE (TESTV f o v)) h = when-within n (open-at v (seen - 1)) at (omega arith)
   unbound-within seen own at (CLAUSE (BIND f v)) h = nowhere
+  unbound-within seen own at (CLAUSE (GATHER f v)) h = nowhere
   unbound-within seen own at (GUARD e) h = leaf-within n (unboundLeaf open-at seen own) (at + 1) e (omega arith)
 
   first-unbound-within : (seen : ℕ) (own : List Clause) (at : ℕ) (cs : List Command) → at + bytesIn cs ≤ n → Within n (firstUnbound open-at seen own at cs)

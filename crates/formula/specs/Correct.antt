@@ -4,10 +4,10 @@ use mathlib.Core.Path.{_≡_}
 use mathlib.Core.Bool.{Bool, true, false}
 use mathlib.Core.List.{List, [], _∷_}
 use mathlib.Core.Option.{Option, none, some}
-use lib.ListN.{length}
+use lib.ListN.{length, getD, set, replicate}
 use Rattle.base.specs.Lists.{All}
-use Rattle.formula.specs.Formula.{Leaf, CONST, VAR, COUNT, Expr, LEAF, ADD, SUB, LESS, ATMOST, EQUAL, NOT, AND, OR, IF}
-use Rattle.formula.specs.Formula.{Clause, TEST, TESTV, BIND, Step, StateKind, ordinary, committed, accept, reject, State, Formula}
+use Rattle.formula.specs.Formula.{Leaf, CONST, VAR, COUNT, SUM, LENGTH, DIFFERENT, Expr, LEAF, ADD, SUB, LESS, ATMOST, EQUAL, NOT, AND, OR, IF}
+use Rattle.formula.specs.Formula.{Clause, TEST, TESTV, BIND, GATHER, Step, StateKind, ordinary, committed, accept, reject, State, Formula}
 use Rattle.formula.specs.Encode.{Command, TIED, STATE, STEP, CLAUSE, GUARD, commands}
 use Rattle.formula.specs.Unbound.{binds, Unbound}
 
@@ -61,15 +61,22 @@ isFinal reject = true
 abbrev pub Variable : ℕ → Type 0
 Variable v = v < 8
 
+-- "list variables are 8 to 11": the lists are 0 to 3
+abbrev pub ListVariable : ℕ → Type 0
+ListVariable v = v < 4
+
 -- "Values are .. 0 to 4294967295"
 abbrev pub Value : ℕ → Type 0
 Value v = v < 4294967296
 
--- the leaf's value, variable or state exists, given the number of states
+-- the leaf's value, variable, state or list exists, given the number of states
 abbrev pub LeafExists : ℕ → Leaf → Type 0
 LeafExists states (CONST v) = Value v
 LeafExists states (VAR v) = Variable v
 LeafExists states (COUNT s) = s < states
+LeafExists states (SUM v) = ListVariable v
+LeafExists states (LENGTH v) = ListVariable v
+LeafExists states (DIFFERENT v) = ListVariable v
 
 -- the command's field, variable, value and states exist, given the number of fields and states
 abbrev pub Exists : ℕ → ℕ → Command → Type 0
@@ -79,6 +86,7 @@ Exists fields states (STEP t) = t < states
 Exists fields states (CLAUSE (TEST f o v)) = (f < fields) × Value v
 Exists fields states (CLAUSE (TESTV f o v)) = (f < fields) × Variable v
 Exists fields states (CLAUSE (BIND f v)) = (f < fields) × Variable v
+Exists fields states (CLAUSE (GATHER f v)) = (f < fields) × ListVariable v
 Exists fields states (GUARD e) = Leaves (LeafExists states) e
 
 -- "At most 31 commands, nested at most 8 deep"
@@ -86,9 +94,28 @@ abbrev pub GuardFits : Option Expr → Type 0
 GuardFits none = Unit {0}
 GuardFits (some e) = (size e ≤ 31) × (depth e ≤ 8)
 
--- "At most 8 of these a STEP"
+-- the lists marked do not have that of the clause, if it is a GATHER; and the marks with it
+abbrev pub Fresh : List Bool → Clause → Type 0
+Fresh seen (TEST f o x) = Unit {0}
+Fresh seen (TESTV f o v) = Unit {0}
+Fresh seen (BIND f v) = Unit {0}
+Fresh seen (GATHER f v) = getD seen v false ≡ false
+
+abbrev pub seenWith : List Bool → Clause → List Bool
+seenWith seen (TEST f o x) = seen
+seenWith seen (TESTV f o v) = seen
+seenWith seen (BIND f v) = seen
+seenWith seen (GATHER f v) = set seen v true
+
+-- not "one STEP gathers a variable a second time": no GATHER's list is marked, or gathered into by one before it
+abbrev pub Once : List Bool → List Clause → Type 0
+Once seen [] = Unit {0}
+Once seen (k ∷ ks) = Fresh seen k × Once (seenWith seen k) ks
+
+-- "At most 8 of these a STEP", GATHERs "counted with them"
 pub record StepFits (t : Step) : Type 0 where
   pub clauses : length (t .clauses) ≤ 8
+  pub once : Once (replicate 4 false) (t .clauses)
   pub guard : GuardFits (t .guard)
 
 -- "STEP .. at most 8 a state; in accept or reject it is foreign"
@@ -102,12 +129,16 @@ abbrev pub ClauseBound : Formula → ℕ → Clause → Type 0
 ClauseBound f s (TEST g o x) = Unit {0}
 ClauseBound f s (TESTV g o v) = ¬ Unbound f v s
 ClauseBound f s (BIND g v) = Unit {0}
+ClauseBound f s (GATHER g v) = Unit {0}
 
 -- "At a VAR the step's own BINDs count too": no leaf of a guard in state s, behind the clauses own, is a VAR of an unbound variable
 abbrev pub LeafBound : Formula → ℕ → List Clause → Leaf → Type 0
 LeafBound f s own (CONST x) = Unit {0}
 LeafBound f s own (VAR v) = binds v own ≡ false → ¬ Unbound f v s
 LeafBound f s own (COUNT t) = Unit {0}
+LeafBound f s own (SUM v) = Unit {0}
+LeafBound f s own (LENGTH v) = Unit {0}
+LeafBound f s own (DIFFERENT v) = Unit {0}
 
 -- no leaf of the guard is unbound
 abbrev pub GuardBound : Formula → ℕ → List Clause → Option Expr → Type 0

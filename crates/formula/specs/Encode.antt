@@ -1,13 +1,13 @@
 -- "Commands are one byte (hexadecimal here) with operands of fixed width": a formula's commands in file order, and their bytes.
-use Prim.Native.Nat.{ℕ}
+use Prim.Native.Nat.{ℕ, _+_}
 use mathlib.Core.List.{List, [], _∷_, _++_, map, flatMap}
 use mathlib.Core.Option.{Option, none, some}
 use Rattle.base.specs.Value.{bytesOf}
 use Rattle.formula.specs.Formula.{Operator, equal, unequal, less, greater, atmost, atleast}
-use Rattle.formula.specs.Formula.{Leaf, CONST, VAR, COUNT, Expr, LEAF, ADD, SUB, LESS, ATMOST, EQUAL, NOT, AND, OR, IF}
-use Rattle.formula.specs.Formula.{Clause, TEST, TESTV, BIND, Step, StateKind, ordinary, committed, accept, reject, State, Formula}
+use Rattle.formula.specs.Formula.{Leaf, CONST, VAR, COUNT, SUM, LENGTH, DIFFERENT, Expr, LEAF, ADD, SUB, LESS, ATMOST, EQUAL, NOT, AND, OR, IF}
+use Rattle.formula.specs.Formula.{Clause, TEST, TESTV, BIND, GATHER, Step, StateKind, ordinary, committed, accept, reject, State, Formula}
 
--- a command of the file but END; a TEST, TESTV or BIND is a clause of its STEP
+-- a command of the file but END; a TEST, TESTV, BIND or GATHER is a clause of its STEP
 pub data Command : Type 0 where
   TIED : ℕ → Command
   STATE : StateKind → Command
@@ -15,7 +15,7 @@ pub data Command : Type 0 where
   CLAUSE : Clause → Command
   GUARD : Expr → Command
 
--- a step is its STEP, "then TEST, TESTV, BIND in any order", then its GUARD if it has one
+-- a step is its STEP, "then TEST, TESTV, BIND in any order", GATHERs among them, then its GUARD if it has one
 unfoldable pub guardCommands : Option Expr → List Command
 guardCommands none = []
 guardCommands (some e) = GUARD e ∷ []
@@ -47,11 +47,18 @@ kindByte committed = 1
 kindByte accept = 2
 kindByte reject = 3
 
--- "20 CONST value, 21 VAR variable, 22 COUNT state"
+-- "list variables are 8 to 11": how list v is written
+abbrev pub listByte : ℕ → ℕ
+listByte v = 8 + v
+
+-- "20 CONST value, 21 VAR variable, 22 COUNT state", 2C, 2D and 2E, "each has the variable as operand"
 abbrev pub encodeLeaf : Leaf → List ℕ
 encodeLeaf (CONST v) = 0x20 ∷ bytesOf v
 encodeLeaf (VAR v) = 0x21 ∷ v ∷ []
 encodeLeaf (COUNT s) = 0x22 ∷ s ∷ []
+encodeLeaf (SUM v) = 0x2C ∷ listByte v ∷ []
+encodeLeaf (LENGTH v) = 0x2D ∷ listByte v ∷ []
+encodeLeaf (DIFFERENT v) = 0x2E ∷ listByte v ∷ []
 
 -- "one expression follows in prefix order": a command, then its operands
 unfoldable pub encodeExpr : Expr → List ℕ
@@ -66,11 +73,12 @@ encodeExpr (AND a b) = 0x29 ∷ (encodeExpr a ++ encodeExpr b)
 encodeExpr (OR a b) = 0x2A ∷ (encodeExpr a ++ encodeExpr b)
 encodeExpr (IF c a b) = 0x2B ∷ (encodeExpr c ++ (encodeExpr a ++ encodeExpr b))
 
--- "12 TEST field, operator, value; 13 TESTV field, operator, variable; 14 BIND field, variable"
+-- "12 TEST field, operator, value; 13 TESTV field, operator, variable; 14 BIND field, variable"; "17 GATHER field, variable"
 unfoldable pub encodeClause : Clause → List ℕ
 encodeClause (TEST f o v) = 0x12 ∷ f ∷ operatorByte o ∷ bytesOf v
 encodeClause (TESTV f o v) = 0x13 ∷ f ∷ operatorByte o ∷ v ∷ []
 encodeClause (BIND f v) = 0x14 ∷ f ∷ v ∷ []
+encodeClause (GATHER f v) = 0x17 ∷ f ∷ listByte v ∷ []
 
 -- "16 TIED variable", "10 STATE kind", "11 STEP target", "15 GUARD .. one expression follows"
 unfoldable pub encodeCommand : Command → List ℕ

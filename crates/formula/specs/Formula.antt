@@ -7,11 +7,15 @@ use mathlib.Core.Option.{Option}
 pub data Operator : Type 0 where
   equal unequal less greater atmost atleast : Operator
 
--- "CONST value, VAR variable, COUNT state": the expressions that hold no other
+-- "CONST value, VAR variable, COUNT state" and, of a list, "2C gives its sum .., 2D its length, 2E the number of different values": the expressions that
+-- hold no other; a list is named by its number, 0 to 3
 pub data Leaf : Type 0 where
   CONST : ℕ → Leaf
   VAR : ℕ → Leaf
   COUNT : ℕ → Leaf
+  SUM : ℕ → Leaf
+  LENGTH : ℕ → Leaf
+  DIFFERENT : ℕ → Leaf
 
 -- "Expressions": a leaf, or one constructor a command, operands in prefix order
 pub data Expr : Type 0 where
@@ -26,11 +30,12 @@ pub data Expr : Type 0 where
   OR : Expr → Expr → Expr
   IF : Expr → Expr → Expr → Expr
 
--- "TEST field, operator, value; TESTV field, operator, variable; BIND field, variable"
+-- "TEST field, operator, value; TESTV field, operator, variable; BIND field, variable" and "GATHER field, variable", with its list's number
 pub data Clause : Type 0 where
   TEST : ℕ → Operator → ℕ → Clause
   TESTV : ℕ → Operator → ℕ → Clause
   BIND : ℕ → ℕ → Clause
+  GATHER : ℕ → ℕ → Clause
 
 -- "STEP target", its tests and binds in their order, and its GUARD if it has one
 pub record Step : Type 0 where

@@ -1,25 +1,25 @@
--- Reading a formula file: "Files are read from the front and the first bad command decides; within one the order is 2, 4, 1, 3. After END: 5; then
--- 3 for the first STEP or COUNT naming an absent state; then 7; then 8".
+-- Reading a formula file: "Files are read from the front and the first bad command decides; within one the order is 2, 4, 1, 3", 12
+-- "after 4 and 1 and before 3". "After END: 5; then 3 for the first STEP or COUNT naming an absent state; then 7; then 8".
 use Prim.Native.Nat.{ℕ, zero, suc, _+_, _-_}
 use mathlib.Core.Bool.{Bool, true, false, cond, not, _&&_}
 use mathlib.Core.List.{List, [], _∷_, _++_}
 use mathlib.Core.Option.{Option, none, some}
-use lib.Dec.{ltb, eqb}
-use lib.ListN.{length, getD, drop}
+use lib.Dec.{ltb, leb, eqb}
+use lib.ListN.{length, getD, drop, replicate}
 use Rattle.base.specs.Value.{valueAt}
 use Rattle.refusal.specs.declared.File.the-variants.{Formula as InFormula}
 use Rattle.refusal.specs.declared.Refusal.{Refusal}
-use Rattle.refusal.specs.declared.Refusal.the-variants.{CutShort, Foreign, Value, Surplus, Leftover, DeadStart, Unbound as UnboundAt}
+use Rattle.refusal.specs.declared.Refusal.the-variants.{CutShort, Foreign, Value, Surplus, Leftover, DeadStart, Unbound as UnboundAt, Twice}
 use Rattle.formula.specs.declared.Summary.{Summary}
 use Rattle.formula.specs.declared.Opcode.{Opcode}
 use Rattle.formula.specs.declared.Opcode.the-variants.{End as end-op, State as state-op, Step as step-op, Test as test-op, Testv as testv-op}
-use Rattle.formula.specs.declared.Opcode.the-variants.{Bind as bind-op, Guard as guard-op, Tied as tied-op, Other as other-op}
+use Rattle.formula.specs.declared.Opcode.the-variants.{Bind as bind-op, Guard as guard-op, Tied as tied-op, Gather as gather-op, Other as other-op}
 use Rattle.formula.specs.Formula.{Operator, equal, unequal, less, greater, atmost, atleast}
-use Rattle.formula.specs.Formula.{Leaf, CONST, VAR, COUNT, Expr, LEAF, ADD, SUB, LESS, ATMOST, EQUAL, NOT, AND, OR, IF}
-use Rattle.formula.specs.Formula.{Clause, TEST, TESTV, BIND, Step, StateKind, ordinary, committed, accept, reject, State, Formula}
+use Rattle.formula.specs.Formula.{Leaf, CONST, VAR, COUNT, SUM, LENGTH, DIFFERENT, Expr, LEAF, ADD, SUB, LESS, ATMOST, EQUAL, NOT, AND, OR, IF}
+use Rattle.formula.specs.Formula.{Clause, TEST, TESTV, BIND, GATHER, Step, StateKind, ordinary, committed, accept, reject, State, Formula}
 use Rattle.formula.specs.Encode.{Command, TIED, STATE, STEP, CLAUSE, GUARD, encodeExpr, encodeCommand, commands}
 use Rattle.formula.specs.Unbound.{binds, isUnbound}
-use Rattle.formula.specs.Correct.{isFinal, deadStart}
+use Rattle.formula.specs.Correct.{isFinal, deadStart, seenWith}
 
 -- the answer of reading: the formula, or the refusal
 pub data Reading : Type 0 where
@@ -28,15 +28,44 @@ pub data Reading : Type 0 where
 
 -- What decides about the next command is a Summary of those before it, declared with the opcodes in src/lib.rt; that of none
 unfoldable pub start : Summary
-start = record { tied = 0; states = 0; closed = false; steps = 0; clauses = 0; guarded = false }
+start = record { tied = 0; states = 0; closed = false; steps = 0; clauses = 0; guarded = false; gathered = replicate 4 false }
 
 -- the summary after one more command
 abbrev pub advance : Summary → Command → Summary
-advance s (TIED v) = record { tied = suc (s .tied); states = s .states; closed = s .closed; steps = s .steps; clauses = s .clauses; guarded = s .guarded }
-advance s (STATE k) = record { tied = s .tied; states = suc (s .states); closed = isFinal k; steps = 0; clauses = 0; guarded = false }
-advance s (STEP t) = record { tied = s .tied; states = s .states; closed = s .closed; steps = suc (s .steps); clauses = 0; guarded = false }
-advance s (CLAUSE c) = record { tied = s .tied; states = s .states; closed = s .closed; steps = s .steps; clauses = suc (s .clauses); guarded = s .guarded }
-advance s (GUARD e) = record { tied = s .tied; states = s .states; closed = s .closed; steps = s .steps; clauses = s .clauses; guarded = true }
+advance s (TIED v) =
+    record {
+      tied = suc (s .tied);
+      states = s .states;
+      closed = s .closed;
+      steps = s .steps;
+      clauses = s .clauses;
+      guarded = s .guarded;
+      gathered = s .gathered;
+    }
+advance s (STATE k) =
+    record { tied = s .tied; states = suc (s .states); closed = isFinal k; steps = 0; clauses = 0; guarded = false; gathered = replicate 4 false }
+advance s (STEP t) =
+    record { tied = s .tied; states = s .states; closed = s .closed; steps = suc (s .steps); clauses = 0; guarded = false; gathered = replicate 4 false }
+advance s (CLAUSE c) =
+    record {
+      tied = s .tied;
+      states = s .states;
+      closed = s .closed;
+      steps = s .steps;
+      clauses = suc (s .clauses);
+      guarded = s .guarded;
+      gathered = seenWith (s .gathered) c;
+    }
+advance s (GUARD e) =
+    record {
+      tied = s .tied;
+      states = s .states;
+      closed = s .closed;
+      steps = s .steps;
+      clauses = s .clauses;
+      guarded = true;
+      gathered = s .gathered;
+    }
 
 -- the command that a byte names
 unfoldable pub opcode : ℕ → Opcode
@@ -48,7 +77,8 @@ opcode b =
     (cond (eqb b 0x13) testv-op
     (cond (eqb b 0x14) bind-op
     (cond (eqb b 0x15) guard-op
-    (cond (eqb b 0x16) tied-op other-op)))))))
+    (cond (eqb b 0x16) tied-op
+    (cond (eqb b 0x17) gather-op other-op))))))))
 
 -- 2 "foreign: unknown command, or one not allowed there": the commands that are allowed
 abbrev pub allowed : Summary → Opcode → Bool
@@ -60,6 +90,7 @@ allowed s testv-op = ltb 0 (s .steps) && not (s .guarded)
 allowed s bind-op = ltb 0 (s .steps) && not (s .guarded)
 allowed s guard-op = ltb 0 (s .steps)
 allowed s tied-op = eqb (s .states) 0
+allowed s gather-op = ltb 0 (s .steps) && not (s .guarded)
 allowed s other-op = false
 
 -- 4 "surplus: one over a stated count": room for one more
@@ -72,6 +103,7 @@ room s testv-op = ltb (s .clauses) 8
 room s bind-op = ltb (s .clauses) 8
 room s guard-op = not (s .guarded)
 room s tied-op = ltb (s .tied) 8
+room s gather-op = ltb (s .clauses) 8
 room s other-op = true
 
 -- the operator and the kind that a byte names
@@ -94,15 +126,17 @@ pub data ExprNext : Type 0 where
   expression : Expr → ℕ → ℕ → ExprNext
   failed : Refusal → ExprNext
 
--- what an expression command takes: a value, a variable, a state, or one, two or three operands
+-- what an expression command takes: a value, a variable, a state, a list, or one, two or three operands
 pub data ExprOpcode : Type 0 where
   const-op var-op count-op : ExprOpcode
+  list-op : (ℕ → Leaf) → ExprOpcode
   unary : (Expr → Expr) → ExprOpcode
   binary : (Expr → Expr → Expr) → ExprOpcode
   ternary : (Expr → Expr → Expr → Expr) → ExprOpcode
   foreign-op : ExprOpcode
 
--- "20 CONST value, 21 VAR variable, 22 COUNT state, 23 ADD, 24 SUB, 25 LESS, 26 ATMOST, 27 EQUAL, 28 NOT, 29 AND, 2A OR, 2B IF"
+-- "20 CONST value, 21 VAR variable, 22 COUNT state, 23 ADD, 24 SUB, 25 LESS, 26 ATMOST, 27 EQUAL, 28 NOT, 29 AND, 2A OR, 2B IF"; "2C gives its sum ..,
+-- 2D its length, 2E the number of different values"
 unfoldable pub exprOpcode : ℕ → ExprOpcode
 exprOpcode b =
     cond (eqb b 0x20) const-op
@@ -116,13 +150,17 @@ exprOpcode b =
     (cond (eqb b 0x28) (unary NOT)
     (cond (eqb b 0x29) (binary AND)
     (cond (eqb b 0x2A) (binary OR)
-    (cond (eqb b 0x2B) (ternary IF) foreign-op)))))))))))
+    (cond (eqb b 0x2B) (ternary IF)
+    (cond (eqb b 0x2C) (list-op SUM)
+    (cond (eqb b 0x2D) (list-op LENGTH)
+    (cond (eqb b 0x2E) (list-op DIFFERENT) foreign-op))))))))))))))
 
 -- no command is allowed here any more: one that begins an expression is surplus, any other foreign
 abbrev pub overOf : ℕ → ExprOpcode → ExprNext
 overOf at const-op = failed (Surplus InFormula at)
 overOf at var-op = failed (Surplus InFormula at)
 overOf at count-op = failed (Surplus InFormula at)
+overOf at (list-op mk) = failed (Surplus InFormula at)
 overOf at (unary mk) = failed (Surplus InFormula at)
 overOf at (binary mk) = failed (Surplus InFormula at)
 overOf at (ternary mk) = failed (Surplus InFormula at)
@@ -137,6 +175,10 @@ abbrev pub andThen : ExprNext → (Expr → ℕ → ℕ → ExprNext) → ExprNe
 andThen (expression e used left) k = k e used left
 andThen (failed r) k = failed r
 
+-- "list variables are 8 to 11"
+abbrev pub isList : ℕ → Bool
+isList b = leb 8 b && ltb b 12
+
 -- an expression command at `at` with the bytes behind it; `left` commands are still allowed, `operand` reads one operand
 abbrev pub exprOf : (ℕ → ℕ → List ℕ → ExprNext) → ℕ → ℕ → List ℕ → ExprOpcode → ExprNext
 exprOf operand left at ops const-op = cond (ltb (length ops) 4) (failed (CutShort InFormula at)) (expression (LEAF (CONST (valueAt ops 0))) 5 left)
@@ -144,6 +186,9 @@ exprOf operand left at ops var-op =
     cond (ltb (length ops) 1) (failed (CutShort InFormula at))
     (cond (ltb (getD ops 0 0) 8) (expression (LEAF (VAR (getD ops 0 0))) 2 left) (failed (Value InFormula at)))
 exprOf operand left at ops count-op = cond (ltb (length ops) 1) (failed (CutShort InFormula at)) (expression (LEAF (COUNT (getD ops 0 0))) 2 left)
+exprOf operand left at ops (list-op mk) =
+    cond (ltb (length ops) 1) (failed (CutShort InFormula at))
+    (cond (isList (getD ops 0 0)) (expression (LEAF (mk (getD ops 0 0 - 8))) 2 left) (failed (Value InFormula at)))
 exprOf operand left at ops (unary mk) = andThen (operand left (at + 1) ops) (λ a u m. expression (mk a) (1 + u) m)
 exprOf operand left at ops (binary mk) =
     andThen (operand left (at + 1) ops) (λ a u m. andThen (operand m (at + 1 + u) (drop u ops)) (λ b w n. expression (mk a b) (1 + u + w) n))
@@ -179,26 +224,35 @@ abbrev pub guardOf : ExprNext → Next
 guardOf (expression e used left) = command (GUARD e) (1 + used)
 guardOf (failed r) = bad r
 
--- an allowed command with the bytes behind it
-abbrev pub operandsOf : ℕ → ℕ → List ℕ → Opcode → Next
-operandsOf fields at ops end-op = end
-operandsOf fields at ops state-op = operands at ops 1 (ltb (getD ops 0 0) 4) (STATE (kindOf (getD ops 0 0)))
-operandsOf fields at ops step-op = operands at ops 1 true (STEP (getD ops 0 0))
-operandsOf fields at ops test-op =
+-- 12 "one STEP gathers a variable a second time": the step gathers into the list already
+abbrev pub again : List Bool → ℕ → Bool
+again seen b = leb 8 b && getD seen (b - 8) false
+
+-- an allowed command with the bytes behind it; `seen` marks the lists that its step gathers into
+abbrev pub operandsOf : ℕ → List Bool → ℕ → List ℕ → Opcode → Next
+operandsOf fields seen at ops end-op = end
+operandsOf fields seen at ops state-op = operands at ops 1 (ltb (getD ops 0 0) 4) (STATE (kindOf (getD ops 0 0)))
+operandsOf fields seen at ops step-op = operands at ops 1 true (STEP (getD ops 0 0))
+operandsOf fields seen at ops test-op =
     operands at ops 6 (ltb (getD ops 0 0) fields && ltb (getD ops 1 0) 6) (CLAUSE (TEST (getD ops 0 0) (operatorOf (getD ops 1 0)) (valueAt ops 2)))
-operandsOf fields at ops testv-op =
+operandsOf fields seen at ops testv-op =
     operands at ops 3 (ltb (getD ops 0 0) fields && ltb (getD ops 1 0) 6 && ltb (getD ops 2 0) 8)
     (CLAUSE (TESTV (getD ops 0 0) (operatorOf (getD ops 1 0)) (getD ops 2 0)))
-operandsOf fields at ops bind-op = operands at ops 2 (ltb (getD ops 0 0) fields && ltb (getD ops 1 0) 8) (CLAUSE (BIND (getD ops 0 0) (getD ops 1 0)))
-operandsOf fields at ops guard-op = guardOf (readExpr 8 31 (at + 1) ops)
-operandsOf fields at ops tied-op = operands at ops 1 (ltb (getD ops 0 0) 8) (TIED (getD ops 0 0))
-operandsOf fields at ops other-op = bad (Foreign InFormula at)
+operandsOf fields seen at ops bind-op = operands at ops 2 (ltb (getD ops 0 0) fields && ltb (getD ops 1 0) 8) (CLAUSE (BIND (getD ops 0 0) (getD ops 1 0)))
+operandsOf fields seen at ops guard-op = guardOf (readExpr 8 31 (at + 1) ops)
+operandsOf fields seen at ops tied-op = operands at ops 1 (ltb (getD ops 0 0) 8) (TIED (getD ops 0 0))
+operandsOf fields seen at ops gather-op =
+    cond (ltb (length ops) 2) (bad (CutShort InFormula at))
+    (cond (again seen (getD ops 1 0)) (bad (Twice at))
+    (operands at ops 2 (ltb (getD ops 0 0) fields && isList (getD ops 1 0)) (CLAUSE (GATHER (getD ops 0 0) (getD ops 1 0 - 8)))))
+operandsOf fields seen at ops other-op = bad (Foreign InFormula at)
 
--- "within one the order is 2, 4, 1, 3": the command at `at`, with the number of fields; "with END missing, the file length"
+-- "within one the order is 2, 4, 1, 3", 12 before 3: the command at `at`, with the number of fields; "with END missing, the file length"
 unfoldable pub next : ℕ → Summary → ℕ → List ℕ → Next
 next fields s at [] = bad (CutShort InFormula at)
 next fields s at (b ∷ ops) =
-    cond (allowed s (opcode b)) (cond (room s (opcode b)) (operandsOf fields at ops (opcode b)) (bad (Surplus InFormula at))) (bad (Foreign InFormula at))
+    let w = opcode b in
+    cond (allowed s w) (cond (room s w) (operandsOf fields (s .gathered) at ops w) (bad (Surplus InFormula at))) (bad (Foreign InFormula at))
 
 -- the commands read, assembled into a formula from the last one on: clauses and guard of the step that will stand before them, steps of the state
 -- that will, states, tied variables
@@ -263,6 +317,9 @@ abbrev pub absentLeaf : ℕ → Leaf → Bool
 absentLeaf states (CONST x) = false
 absentLeaf states (VAR v) = false
 absentLeaf states (COUNT s) = not (ltb s states)
+absentLeaf states (SUM v) = false
+absentLeaf states (LENGTH v) = false
+absentLeaf states (DIFFERENT v) = false
 
 -- "the first STEP or COUNT naming an absent state", of `states` states: in one command, and in the commands from offset `at` on
 abbrev pub absentIn : ℕ → ℕ → Command → Option ℕ
@@ -297,6 +354,9 @@ abbrev pub unboundLeaf : (ℕ → ℕ → Bool) → ℕ → List Clause → Leaf
 unboundLeaf open-at seen own (CONST x) = false
 unboundLeaf open-at seen own (VAR v) = open-at v (seen - 1) && not (binds v own)
 unboundLeaf open-at seen own (COUNT s) = false
+unboundLeaf open-at seen own (SUM v) = false
+unboundLeaf open-at seen own (LENGTH v) = false
+unboundLeaf open-at seen own (DIFFERENT v) = false
 
 abbrev pub unboundIn : (ℕ → ℕ → Bool) → ℕ → List Clause → ℕ → Command → Option ℕ
 unboundIn open-at seen own at (TIED v) = none
@@ -305,6 +365,7 @@ unboundIn open-at seen own at (STEP t) = none
 unboundIn open-at seen own at (CLAUSE (TEST f o x)) = none
 unboundIn open-at seen own at (CLAUSE (TESTV f o v)) = when (open-at v (seen - 1)) at
 unboundIn open-at seen own at (CLAUSE (BIND f v)) = none
+unboundIn open-at seen own at (CLAUSE (GATHER f v)) = none
 unboundIn open-at seen own at (GUARD e) = firstLeaf (unboundLeaf open-at seen own) (at + 1) e
 
 unfoldable pub firstUnbound : (ℕ → ℕ → Bool) → ℕ → List Clause → ℕ → List Command → Option ℕ

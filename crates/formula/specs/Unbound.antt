@@ -7,7 +7,7 @@ use mathlib.Core.List.{List, [], _∷_, _++_, map, List·Memᴰ}
 use lib.Dec.{eqb}
 use lib.ListN.{getD, set, replicate}
 use Rattle.base.specs.Lists.{All}
-use Rattle.formula.specs.Formula.{Clause, TEST, TESTV, BIND, Step, ordinary, State, Formula}
+use Rattle.formula.specs.Formula.{Clause, TEST, TESTV, BIND, GATHER, Step, ordinary, State, Formula}
 
 -- some BIND among the clauses binds the variable
 unfoldable pub binds : ℕ → List Clause → Bool
@@ -15,6 +15,7 @@ binds v [] = false
 binds v (TEST f o x ∷ cs) = binds v cs
 binds v (TESTV f o w ∷ cs) = binds v cs
 binds v (BIND f w ∷ cs) = eqb w v || binds v cs
+binds v (GATHER f w ∷ cs) = binds v cs
 
 -- the steps of state s, none where there is no such state
 unfoldable pub stepsOf : Formula → ℕ → List Step

@@ -1,5 +1,6 @@
-// Runs the formula reader on the bench's formulas F and G, cut at every byte and with every byte set to 0, 1, 2, 17 and 255, against
-// a log of two fields, and prints each answer: the file, number and place of a refusal, or an accepted formula's number of states.
+// Runs the formula reader on the bench's formulas F and G, cut at every byte and with every byte set to 0, 1, 2, 17 and 255, and on a
+// gathering formula, cut and with some bytes set, against a log of two fields, and prints each answer: the file, number and place of a
+// refusal, or an accepted formula's number of states.
 use libc::STDOUT_FILENO;
 use refusal::Acceptance;
 
@@ -143,9 +144,61 @@ fn open_then_trip() -> [u8; 32] {
     ]
 }
 
+// Gathers into two lists, with a guard on the sum, a length and the different values; 22 bytes.
+fn gathering() -> [u8; 32] {
+    [
+        16,
+        0,
+        17,
+        1,
+        23,
+        0,
+        8,
+        23,
+        1,
+        9,
+        21,
+        38,
+        44,
+        8,
+        35,
+        45,
+        9,
+        46,
+        8,
+        16,
+        2,
+        0,
+        0,
+        0,
+        0,
+        0,
+        0,
+        0,
+        0,
+        0,
+        0,
+        0,
+    ]
+}
+
+// The gathering formula with one byte set.
+fn show_gathering(at: usize, b: u8) {
+    show_set(gathering(), 22, at, b);
+}
+
 fn main() {
     show_cuts(trip_then_open(), 29);
     show_sets(trip_then_open(), 28);
     show_cuts(open_then_trip(), 33);
     show_sets(open_then_trip(), 32);
+    show_cuts(gathering(), 23);
+    // the same list a second time: 12; a byte that names no list, or no field: 3
+    show_gathering(9, 8);
+    show_gathering(6, 9);
+    show_gathering(9, 7);
+    show_gathering(9, 12);
+    show_gathering(8, 2);
+    show_gathering(13, 7);
+    show_gathering(16, 12);
 }

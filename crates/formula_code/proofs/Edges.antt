@@ -15,7 +15,7 @@ use lib.Seq.{getD-set-same, getD-set-other, append-snoc, drop-cons}
 use Rattle.base.specs.Lists.{All}
 use Rattle.formula_code.specs.declared.Draft.{Draft}
 use Rattle.formula.specs.declared.Summary.{Summary}
-use Rattle.formula.specs.Formula.{Expr, Clause, TEST, TESTV, BIND, Step, State, Formula}
+use Rattle.formula.specs.Formula.{Expr, Clause, TEST, TESTV, BIND, GATHER, Step, State, Formula}
 use Rattle.formula.specs.Encode.{Command, TIED, STATE, STEP, CLAUSE, guardCommands, stepCommands, stateCommands, commands}
 use Rattle.formula.specs.Correct.{StateFits}
 use Rattle.formula.specs.Unbound.{binds, Edge, edgesFrom, mark, round, rounds, unbound}
@@ -33,6 +33,7 @@ unfolding binds
 binds-snoc v [] c = refl
 binds-snoc v (TEST f o x ∷ xs) c = binds-snoc v xs c
 binds-snoc v (TESTV f o w ∷ xs) c = binds-snoc v xs c
+binds-snoc v (GATHER f w ∷ xs) c = binds-snoc v xs c
 binds-snoc v (BIND f w ∷ xs) c = ap (λ b. eqb w v || b) (binds-snoc v xs c) ∙ sym (or-assoc (eqb w v) (binds v xs) (binds v (c ∷ [])))
 
 abbrev noEdge : Edge
@@ -211,6 +212,7 @@ module _ (fields : ℕ) where
   unfolding binds
   keep-clause d es s n t xs q (TEST f o x) few k h = record { rep = rep-plain (kept d) es n t xs q (TEST f o x) few (λ v. refl) (h .rep); seen = h .seen }
   keep-clause d es s n t xs q (TESTV f o v) few k h = record { rep = rep-plain (kept d) es n t xs q (TESTV f o v) few (λ w. refl) (h .rep); seen = h .seen }
+  keep-clause d es s n t xs q (GATHER f v) few k h = record { rep = rep-plain (kept d) es n t xs q (GATHER f v) few (λ w. refl) (h .rep); seen = h .seen }
   keep-clause d es s n t xs q (BIND f v) few k h = record { rep = rep-bind (kept d) es n t xs q f v few (k .1) (h .rep); seen = h .seen }
 
   keep-clauses : (d : Draft) (es : List Edge) (s n t : ℕ) (xs ys : List Clause) (q : Option Expr) → length es < 128

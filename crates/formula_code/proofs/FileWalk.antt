@@ -15,10 +15,10 @@ use Rattle.formula.specs.declared.Summary.{Summary}
 use Rattle.formula_code.specs.declared.Draft.{Draft}
 use Rattle.formula_code.specs.declared.Scan.{Scan}
 use Rattle.command_reader.specs.declared.Command.{Command as Kept}
-use Rattle.command_reader.specs.declared.Command.the-variants.{Tied, State, Step, Test, Testv, Bind, Guard}
+use Rattle.command_reader.specs.declared.Command.the-variants.{Tied, State, Step, Test, Testv, Bind, Gather, Guard}
 use Rattle.command_reader.specs.declared.Next.{Next as Read}
 use Rattle.command_reader.specs.declared.Next.the-variants.{Taken, End, Bad}
-use Rattle.formula.specs.Formula.{TEST, TESTV, BIND}
+use Rattle.formula.specs.Formula.{TEST, TESTV, BIND, GATHER}
 use Rattle.formula.specs.Encode.{Command, TIED, STATE, STEP, CLAUSE, GUARD, encodeCommand}
 use Rattle.formula.specs.Read.{Next, command, end, bad, next}
 use Rattle.formula.proofs.Basics.{bytes-drop}
@@ -37,6 +37,7 @@ counted-on s (Step t) h r = record { tied = h .tied; states = h .states; steps =
 counted-on s Test h r = record { tied = h .tied; states = h .states; steps = h .steps; clauses = omega (arith, r .1) }
 counted-on s (Testv v) h r = record { tied = h .tied; states = h .states; steps = h .steps; clauses = omega (arith, r .1) }
 counted-on s (Bind v) h r = record { tied = h .tied; states = h .states; steps = h .steps; clauses = omega (arith, r .1) }
+counted-on s (Gather v) h r = record { tied = h .tied; states = h .states; steps = h .steps; clauses = omega (arith, r .1) }
 counted-on s Guard h r = record { tied = h .tied; states = h .states; steps = h .steps; clauses = h .clauses }
 
 -- a new state leaves room for the steps of those before it
@@ -52,6 +53,7 @@ within-on s g (Step t) k r h = record { most = omega (arith, h .most); least = o
 within-on s g Test k r h = record { most = h .most; least = h .least; some = h .some }
 within-on s g (Testv v) k r h = record { most = h .most; least = h .least; some = h .some }
 within-on s g (Bind v) k r h = record { most = h .most; least = h .least; some = h .some }
+within-on s g (Gather v) k r h = record { most = h .most; least = h .least; some = h .some }
 within-on s g Guard k r h = record { most = h .most; least = h .least; some = h .some }
 
 -- what is known of a command that was taken, of what is kept of it
@@ -73,6 +75,7 @@ ready-shape fields s (STEP t) f o = (f .0, f .2)
 ready-shape fields s (CLAUSE (TEST g o x)) f e = (f .0, f .2)
 ready-shape fields s (CLAUSE (TESTV g o v)) f e = (f .0, f .2, e .1)
 ready-shape fields s (CLAUSE (BIND g v)) f e = (f .0, f .2, e .1)
+ready-shape fields s (CLAUSE (GATHER g v)) f e = (f .0, f .2, e .1)
 ready-shape fields s (GUARD e) f o = f .0
 
 known-shape : (own : List Bool) (st at : ℕ) (places : List ℕ) (fields : ℕ) (s : Summary) (bs : List ℕ) (x : Next) → Takes fields s bs x

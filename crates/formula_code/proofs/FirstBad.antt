@@ -8,7 +8,7 @@ use borrow.Author.Tests.{lt-ltb, le-ltb}
 use lib.Dec.{ltb, eqb}
 use lib.ListN.{length, getD, replicate, length-append, length-set, getD-replicate}
 use Rattle.base.specs.Lists.{All}
-use Rattle.formula.specs.Formula.{Leaf, CONST, VAR, COUNT, Clause, TEST, TESTV, BIND}
+use Rattle.formula.specs.Formula.{Leaf, CONST, VAR, COUNT, SUM, LENGTH, DIFFERENT, Clause, TEST, TESTV, BIND, GATHER}
 use Rattle.formula.specs.Encode.{Command, TIED, STATE, STEP, CLAUSE, GUARD, encodeClause, encodeCommand}
 use Rattle.formula.specs.Unbound.{binds}
 use Rattle.formula.specs.declared.Summary.{Summary}
@@ -60,6 +60,13 @@ kept-on s seen own clauses (CLAUSE (TESTV g o w)) f h =
       size = h .size;
       marks = λ v l. h .marks v l ∙ sym (binds-snoc v clauses (TESTV g o w) ∙ or-false (binds v clauses));
     }
+kept-on s seen own clauses (CLAUSE (GATHER g w)) f h =
+    record {
+      states = h .states;
+      most = h .most;
+      size = h .size;
+      marks = λ v l. h .marks v l ∙ sym (binds-snoc v clauses (GATHER g w) ∙ or-false (binds v clauses));
+    }
 kept-on s seen own clauses (CLAUSE (BIND g w)) f h =
     record {
       states = h .states;
@@ -100,6 +107,9 @@ module _ (fields n : ℕ) (most : n ≤ 16) where
   absent-leaf s own low (CONST x) k = idle late _
   absent-leaf s own low (VAR v) k = var-notes late s own v false (getD own v false) (late-var v s k low) refl k low
   absent-leaf s own low (COUNT t) k = notes late 2 (stateKey t) (not (ltb t n)) (late-state t) (state-key t .most) (omega arith)
+  absent-leaf s own low (SUM v) k = idle late _
+  absent-leaf s own low (LENGTH v) k = idle late _
+  absent-leaf s own low (DIFFERENT v) k = idle late _
 
   absent-in : (s : Summary) (seen : ℕ) (own : List Bool) (clauses : List Clause) (c : Command) → Kept s seen own clauses → Operands fields c
       → Reads late (length (encodeCommand c)) (λ at t. placesBy seen own at c t) (λ at. absentIn n at c)
@@ -111,6 +121,7 @@ module _ (fields n : ℕ) (most : n ≤ 16) where
   absent-in s seen own clauses (CLAUSE (TESTV f o v)) h k =
       notes late 4 (v * 16 + (seen - 1)) false (late-var v (seen - 1) (k .1) (omega (arith, h .most))) (omega (arith, h .most)) (omega arith)
   absent-in s seen own clauses (CLAUSE (BIND f v)) h k = idle late _
+  absent-in s seen own clauses (CLAUSE (GATHER f v)) h k = idle late _
   absent-in s seen own clauses (GUARD e) h k =
       behind late (expr-reads late (seen - 1) own (absentLeaf n) (absent-leaf (seen - 1) own (omega (arith, h .most))) e k)
 
@@ -154,6 +165,9 @@ module _ (fields : ℕ) (free : List Bool) (un : ℕ → ℕ → Bool) (same : (
   unbound-leaf seen own clauses marks low (VAR v) k =
       var-notes loose (seen - 1) own v (un v (seen - 1)) (binds v clauses) (loose-var v (seen - 1) k low) (marks v k) k low
   unbound-leaf seen own clauses marks low (COUNT t) k = notes loose 2 (stateKey t) false (loose-state t) (state-key t .most) (omega arith)
+  unbound-leaf seen own clauses marks low (SUM v) k = idle loose _
+  unbound-leaf seen own clauses marks low (LENGTH v) k = idle loose _
+  unbound-leaf seen own clauses marks low (DIFFERENT v) k = idle loose _
 
   unbound-in : (s : Summary) (seen : ℕ) (own : List Bool) (clauses : List Clause) (c : Command) → Kept s seen own clauses → Operands fields c
       → Reads loose (length (encodeCommand c)) (λ at t. placesBy seen own at c t) (λ at. unboundIn un seen clauses at c)
@@ -166,6 +180,7 @@ module _ (fields : ℕ) (free : List Bool) (un : ℕ → ℕ → Bool) (same : (
       notes loose 4 (v * 16 + (seen - 1)) (un v (seen - 1)) (loose-var v (seen - 1) (k .1) (omega (arith, h .most))) (omega (arith, h .most))
       (omega arith)
   unbound-in s seen own clauses (CLAUSE (BIND f v)) h k = idle loose _
+  unbound-in s seen own clauses (CLAUSE (GATHER f v)) h k = idle loose _
   unbound-in s seen own clauses (GUARD e) h k =
       behind loose
       (expr-reads loose (seen - 1) own (unboundLeaf un seen clauses) (unbound-leaf seen own clauses (h .marks) (omega (arith, h .most))) e k)

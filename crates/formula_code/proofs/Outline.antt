@@ -13,7 +13,7 @@ use Rattle.base.specs.Lists.{pad}
 use Rattle.base.specs.Mask.{mask}
 use Rattle.base.proofs.Lists.{set-pad}
 use Rattle.formula_code.specs.declared.Draft.{Draft}
-use Rattle.formula.specs.Formula.{TEST, TESTV, BIND, State}
+use Rattle.formula.specs.Formula.{TEST, TESTV, BIND, GATHER, State}
 use Rattle.formula.specs.Encode.{Command, TIED, STATE, STEP, CLAUSE, GUARD, kindByte, encodeCommand}
 use Rattle.formula.specs.Lookup.{isTied, maskFrom}
 use Rattle.formula.specs.Read.{advance, assembly}
@@ -41,6 +41,7 @@ table-add d (STEP t) = refl
 table-add d (CLAUSE (TEST f o x)) = refl
 table-add d (CLAUSE (TESTV f o v)) = refl
 table-add d (CLAUSE (BIND f v)) = refl
+table-add d (CLAUSE (GATHER f v)) = refl
 table-add d (GUARD e) = refl
 
 pub table-after : (d : Draft) (cs : List Command) → draftAfter d cs .table ≡ fill (d .summary) (d .at) (d .table) cs
@@ -75,6 +76,8 @@ kinds-after d (CLAUSE (TESTV f o v) ∷ cs) ks e n h =
     kinds-after (addC d (CLAUSE (TESTV f o v))) cs ks e n (subst (λ s. Follows s cs) (sym (summary-add d (CLAUSE (TESTV f o v)))) (h .1))
 kinds-after d (CLAUSE (BIND f v) ∷ cs) ks e n h =
     kinds-after (addC d (CLAUSE (BIND f v))) cs ks e n (subst (λ s. Follows s cs) (sym (summary-add d (CLAUSE (BIND f v)))) (h .1))
+kinds-after d (CLAUSE (GATHER f v) ∷ cs) ks e n h =
+    kinds-after (addC d (CLAUSE (GATHER f v))) cs ks e n (subst (λ s. Follows s cs) (sym (summary-add d (CLAUSE (GATHER f v)))) (h .1))
 kinds-after d (GUARD x ∷ cs) ks e n h = kinds-after (addC d (GUARD x)) cs ks e n (subst (λ s. Follows s cs) (sym (summary-add d (GUARD x))) (h .1))
 
 -- a variable is tied if it was or is
@@ -91,6 +94,7 @@ ties-at d (STEP t ∷ cs) w h = ties-at (addC d (STEP t)) cs w h
 ties-at d (CLAUSE (TEST f o x) ∷ cs) w h = ties-at (addC d (CLAUSE (TEST f o x))) cs w h
 ties-at d (CLAUSE (TESTV f o v) ∷ cs) w h = ties-at (addC d (CLAUSE (TESTV f o v))) cs w h
 ties-at d (CLAUSE (BIND f v) ∷ cs) w h = ties-at (addC d (CLAUSE (BIND f v))) cs w h
+ties-at d (CLAUSE (GATHER f v) ∷ cs) w h = ties-at (addC d (CLAUSE (GATHER f v))) cs w h
 ties-at d (GUARD x ∷ cs) w h = ties-at (addC d (GUARD x)) cs w h
 
 ties-length : (d : Draft) (cs : List Command) → length (draftAfter d cs .ties) ≡ length (d .ties)
@@ -102,6 +106,7 @@ ties-length d (STEP t ∷ cs) = ties-length (addC d (STEP t)) cs
 ties-length d (CLAUSE (TEST f o x) ∷ cs) = ties-length (addC d (CLAUSE (TEST f o x))) cs
 ties-length d (CLAUSE (TESTV f o v) ∷ cs) = ties-length (addC d (CLAUSE (TESTV f o v))) cs
 ties-length d (CLAUSE (BIND f v) ∷ cs) = ties-length (addC d (CLAUSE (BIND f v))) cs
+ties-length d (CLAUSE (GATHER f v) ∷ cs) = ties-length (addC d (CLAUSE (GATHER f v))) cs
 ties-length d (GUARD x ∷ cs) = ties-length (addC d (GUARD x)) cs
 
 -- marks that are those of the tied variables make their mask

@@ -21,7 +21,7 @@ use Rattle.refusal.specs.declared.Acceptance.the-variants.{Accepted, Refused}
 use Rattle.refusal.specs.inner.Acceptance.{refusalOf}
 use Rattle.formula_code.specs.declared.Draft.{Draft}
 use Rattle.formula_code.specs.declared.Scan.{Scan}
-use Rattle.formula.specs.Formula.{TEST, TESTV, BIND, State, Formula}
+use Rattle.formula.specs.Formula.{TEST, TESTV, BIND, GATHER, State, Formula}
 use Rattle.formula.specs.Encode.{Command, TIED, STATE, STEP, CLAUSE, GUARD, encodeCommand, commands}
 use Rattle.formula.specs.Unbound.{edgesFrom, isUnbound}
 use Rattle.formula.specs.Correct.{deadStart}
@@ -77,6 +77,7 @@ seen-add d (STEP t) = refl
 seen-add d (CLAUSE (TEST f o x)) = refl
 seen-add d (CLAUSE (TESTV f o v)) = refl
 seen-add d (CLAUSE (BIND f v)) = refl
+seen-add d (CLAUSE (GATHER f v)) = refl
 seen-add d (GUARD e) = refl
 
 -- the places after the commands behind a draft

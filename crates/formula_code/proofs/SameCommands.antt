@@ -16,7 +16,7 @@ use Rattle.refusal.specs.declared.Refusal.the-variants.{CutShort}
 use Rattle.refusal.specs.declared.Acceptance.the-variants.{Refused}
 use Rattle.formula_code.specs.declared.Draft.{Draft}
 use Rattle.formula_code.specs.declared.Scan.{Scan}
-use Rattle.formula.specs.Formula.{TEST, TESTV, BIND, StateKind, ordinary, committed, accept, reject}
+use Rattle.formula.specs.Formula.{TEST, TESTV, BIND, GATHER, StateKind, ordinary, committed, accept, reject}
 use Rattle.formula.specs.Encode.{Command, TIED, STATE, STEP, CLAUSE, GUARD, kindByte, encodeCommand}
 use Rattle.formula.specs.Correct.{isFinal}
 use Rattle.formula.specs.declared.Summary.{Summary}
@@ -53,6 +53,7 @@ summary-add d (STEP t) = rw (add-one (d .summary .steps))
 summary-add d (CLAUSE (TEST f o x)) = rw (add-one (d .summary .clauses))
 summary-add d (CLAUSE (TESTV f o v)) = rw (add-one (d .summary .clauses))
 summary-add d (CLAUSE (BIND f v)) = rw (add-one (d .summary .clauses))
+summary-add d (CLAUSE (GATHER f v)) = rw (add-one (d .summary .clauses))
 summary-add d (GUARD e) = refl
 
 pub summary-after : (d : Draft) (cs : List Command) → draftAfter d cs .summary ≡ advances (d .summary) cs

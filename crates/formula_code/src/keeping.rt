@@ -5,10 +5,10 @@ use expression_reader::places::note;
 use expression_reader::places::state_key;
 use formula::Summary;
 ghost use mathlib.Core.Path.{_≡_};
-ghost use Prim.Native.Nat.{_≤_};
-ghost use Rattle.formula_code.specs.inner.Scan.{Counted, Ready, Within, clauseMore, advanceBy, kindsWith, tableWith, tiesWith, countWith, fromWith, toWith, boundWith, ownWith, placesWith};
+ghost use Prim.Native.Nat.{_≤_, _<_};
+ghost use Rattle.formula_code.specs.inner.Scan.{Counted, Ready, Within, clauseMore, gatherMore, advanceBy, kindsWith, tableWith, tiesWith, countWith, fromWith, toWith, boundWith, ownWith, placesWith};
 
-// The summary after one more test or bind.
+// The summary after one more clause.
 fn one_clause_more(s: Summary) -> Summary
     requires { ⌜ s .clauses ≤ 8 ⌝ }
     ensures { λ r. ⌜ r ≡ clauseMore s ⌝ }
@@ -18,9 +18,19 @@ fn one_clause_more(s: Summary) -> Summary
     n
 }
 
+// The summary after one more GATHER, into list v.
+fn one_gather_more(s: Summary, v: usize) -> Summary
+    requires { ⌜ (s .clauses ≤ 8) × (v < 4) ⌝ }
+    ensures { λ r. ⌜ r ≡ gatherMore s v ⌝ }
+{
+    let mut n = one_clause_more(s);
+    n.gathered[v] = true;
+    n
+}
+
 // The summary after one more command.
 pub fn advance(s: Summary, c: Command) -> Summary
-    requires { ⌜ Counted s ⌝ }
+    requires { ⌜ Counted s × Ready s c ⌝ }
     ensures { λ r. ⌜ r ≡ advanceBy s c ⌝ }
 {
     let mut n = s;
@@ -36,6 +46,7 @@ pub fn advance(s: Summary, c: Command) -> Summary
             steps: 0,
             clauses: 0,
             guarded: false,
+            gathered: [false; 4],
         },
         Command::Step(_t) => Summary {
             tied: s.tied,
@@ -44,10 +55,12 @@ pub fn advance(s: Summary, c: Command) -> Summary
             steps: s.steps + 1,
             clauses: 0,
             guarded: false,
+            gathered: [false; 4],
         },
         Command::Test => one_clause_more(s),
         Command::Testv(_v) => one_clause_more(s),
         Command::Bind(_v) => one_clause_more(s),
+        Command::Gather(v) => one_gather_more(s, v),
         Command::Guard => {
             n.guarded = true;
             n
@@ -149,6 +162,7 @@ pub fn own_after(own: [bool; 8], s: Summary, c: Command) -> [bool; 8]
             n[v] = true;
             n
         }
+        Command::Gather(_v) => n,
         Command::Guard => n,
     }
 }
@@ -165,6 +179,7 @@ pub fn note_command(places: &mut [usize; 145], s: Summary, at: usize, c: Command
         Command::Test => {}
         Command::Testv(v) => note(places, v * 16 + before(s.states), at),
         Command::Bind(_v) => {}
+        Command::Gather(_v) => {}
         Command::Guard => {}
     }
 }

@@ -78,6 +78,7 @@ fn empty_draft() -> Draft
             steps: 0,
             clauses: 0,
             guarded: false,
+            gathered: [false; 4],
         },
         kinds: [0u32; 16],
         table: [0usize; 128],

@@ -11,14 +11,16 @@ use lib.Dec.{ltb, eqb}
 use Rattle.base.proofs.Lists.{rest-drop}
 use Rattle.base.specs.Value.{bytesOf, valueAt}
 use Rattle.base.proofs.Values.{value-of-bytes}
-use Rattle.formula.specs.Formula.{Leaf, CONST, VAR, COUNT, Expr, LEAF, ADD, SUB, LESS, ATMOST, EQUAL, NOT, AND, OR, IF}
+use Rattle.formula.specs.Formula.{Leaf, CONST, VAR, COUNT, SUM, LENGTH, DIFFERENT, Expr, LEAF, ADD, SUB, LESS, ATMOST, EQUAL, NOT, AND, OR, IF}
 use Rattle.formula.specs.Encode.{encodeLeaf, encodeExpr}
 use Rattle.formula.specs.Correct.{depth, Leaves, Value, LeafExists}
 use Rattle.guard_code.specs.declared.Evaluated.{Evaluated}
 use Rattle.machine.specs.Configuration.{Config}
 use Rattle.machine.specs.Guard.{truth, leaf, value}
+use Rattle.machine.specs.inner.Along.{tallies}
 use Rattle.guard_code.specs.inner.Bytes.{operandsOf, applied, leafValue, leafWidth, leafUsed, evaluatedThird, evaluatedSecond, evaluatedFirst}
 use Rattle.guard_code.specs.inner.Bytes.{evaluated, guardAt}
+use Rattle.guard_code.proofs.Tallies.{sum-at, length-at, different-at}
 
 pub two-operands : (c : ℕ) → (c ≡ 0x28 → ⊥) → 0x23 ≤ c → c < 0x2B → 2 ≡ operandsOf c
 unfolding operandsOf
@@ -276,6 +278,9 @@ unfolding operandsOf
 leaf-alone (CONST x) rest = refl
 leaf-alone (VAR v) rest = refl
 leaf-alone (COUNT s) rest = refl
+leaf-alone (SUM v) rest = refl
+leaf-alone (LENGTH v) rest = refl
+leaf-alone (DIFFERENT v) rest = refl
 
 -- and takes its own bytes
 pub leaf-used : (l : Leaf) (rest : List ℕ) → leafUsed (encodeLeaf l ++ rest) ≡ length (encodeLeaf l)
@@ -283,13 +288,20 @@ unfolding leafUsed
 leaf-used (CONST x) rest = omega (arith, length-append (bytesOf x) rest, length-bytes x)
 leaf-used (VAR v) rest = omega arith
 leaf-used (COUNT s) rest = omega arith
+leaf-used (SUM v) rest = omega arith
+leaf-used (LENGTH v) rest = omega arith
+leaf-used (DIFFERENT v) rest = omega arith
 
 -- its value over its bytes
-leaf-encode : (states : ℕ) (c : Config) (l : Leaf) (rest : List ℕ) → LeafExists states l → leafValue (c .values) (c .counters) (encodeLeaf l ++ rest) ≡ leaf c l
+leaf-encode : (states : ℕ) (c : Config) → length (c .lists) ≡ 4 → (l : Leaf) (rest : List ℕ) → LeafExists states l
+    → leafValue (c .values) (c .counters) (tallies (c .lists)) (encodeLeaf l ++ rest) ≡ leaf c l
 unfolding leafValue
-leaf-encode states c (CONST x) rest h = const-value x rest h
-leaf-encode states c (VAR v) rest h = refl
-leaf-encode states c (COUNT s) rest h = refl
+leaf-encode states c k (CONST x) rest h = const-value x rest h
+leaf-encode states c k (VAR v) rest h = refl
+leaf-encode states c k (COUNT s) rest h = refl
+leaf-encode states c k (SUM v) rest h = let e : 8 + v - 8 ≡ v = omega arith in rw e (sum-at (c .lists) k v h)
+leaf-encode states c k (LENGTH v) rest h = let e : 8 + v - 4 ≡ 4 + v = omega arith in rw e (length-at (c .lists) k v h)
+leaf-encode states c k (DIFFERENT v) rest h = different-at (c .lists) k v
 
 -- every expression has a command
 pub no-depth : (e : Expr) → depth e ≤ 0 → ⊥
@@ -306,9 +318,9 @@ no-depth (OR a b) h = omega arith
 no-depth (IF a b d) h = omega arith
 
 -- On an expression's bytes, whatever follows them, the code's value is the expression's, and it takes exactly those bytes.
-module _ (states : ℕ) (c : Config) where
+module _ (states : ℕ) (c : Config) (four : length (c .lists) ≡ 4) where
   abbrev leafAt : List ℕ → ℕ
-  leafAt = leafValue (c .values) (c .counters)
+  leafAt = leafValue (c .values) (c .counters) (tallies (c .lists))
 
   abbrev Evaluates : ℕ → List ℕ → ℕ → Type 0
   Evaluates n bytes v = (l : List ℕ) → evaluated n leafAt (bytes ++ l) ≡ record { value = v; used = length bytes }
@@ -324,10 +336,10 @@ module _ (states : ℕ) (c : Config) where
   two o a b n h p q l = rw h (two-read (evaluated n leafAt) o (value c a) (value c b) (encodeExpr a) (encodeExpr b) l h (p (encodeExpr b ++ l)) (q l))
 
   pub evaluate-encode : (e : Expr) (n : ℕ) → Leaves (LeafExists states) e → depth e ≤ n → (l : List ℕ)
-      → evaluated n (leafValue (c .values) (c .counters)) (encodeExpr e ++ l) ≡ record { value = value c e; used = length (encodeExpr e) }
+      → evaluated n (leafValue (c .values) (c .counters) (tallies (c .lists))) (encodeExpr e ++ l) ≡ record { value = value c e; used = length (encodeExpr e) }
   unfolding evaluated encodeExpr depth value operandsOf applied
   evaluate-encode e zero h k l = absurd (no-depth e k)
-  evaluate-encode (LEAF x) (suc n) h k l = rw (leaf-alone x l, leaf-used x l, leaf-encode states c x l h)
+  evaluate-encode (LEAF x) (suc n) h k l = rw (leaf-alone x l, leaf-used x l, leaf-encode states c four x l h)
   evaluate-encode (ADD a b) (suc n) h k l = two 0x23 a b n refl (evaluate-encode a n (h .0) (omega arith)) (evaluate-encode b n (h .1) (omega arith)) l
   evaluate-encode (SUB a b) (suc n) h k l = two 0x24 a b n refl (evaluate-encode a n (h .0) (omega arith)) (evaluate-encode b n (h .1) (omega arith)) l
   evaluate-encode (LESS a b) (suc n) h k l = two 0x25 a b n refl (evaluate-encode a n (h .0) (omega arith)) (evaluate-encode b n (h .1) (omega arith)) l

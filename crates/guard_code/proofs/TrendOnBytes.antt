@@ -1,7 +1,7 @@
 -- Rising and falling over an expression's bytes: what each way through the code computes, and that on an expression's bytes it is the definition's.
 use Prim.Native.Nat.{ℕ, zero, suc, _+_, _-_, _^_, _<_, _≤_}
 use mathlib.Core.Path.{_≡_, refl, ap, sym, _∙_}
-use mathlib.Core.Bool.{Bool, true, false, cond, _&&_, _||_}
+use mathlib.Core.Bool.{Bool, true, false, cond, not, _&&_, _||_}
 use mathlib.Core.List.{List, _∷_, _++_, append-assoc}
 use native.Mathlib.Omega.{arith}
 use borrow.Author.Tests.{ne-eqb, eqb-false}
@@ -9,13 +9,14 @@ use lib.ListN.{length, getD, drop, length-drop, length-append}
 use lib.Dec.{eqb}
 use Rattle.base.proofs.Lists.{rest-drop}
 use Rattle.event_log.specs.Log.{Kind}
-use Rattle.formula.specs.Formula.{Clause, Leaf, CONST, VAR, COUNT, Expr, LEAF, ADD, SUB, LESS, ATMOST, EQUAL, NOT, AND, OR, IF}
+use Rattle.formula.specs.Formula.{Clause, Leaf, CONST, VAR, COUNT, SUM, LENGTH, DIFFERENT, Expr, LEAF, ADD, SUB, LESS, ATMOST, EQUAL, NOT, AND, OR, IF}
 use Rattle.formula.specs.Encode.{encodeLeaf, encodeExpr}
 use Rattle.formula.specs.Correct.{depth, Leaves, LeafExists}
 use Rattle.machine.specs.Configuration.{Config}
 use Rattle.machine.specs.Firing.{isHeld}
-use Rattle.machine.specs.Expiry.{firstBind, fieldRises, leafRises, leafFalls, rising, falling}
+use Rattle.machine.specs.Expiry.{firstBind, fieldRises, gathers, gathersRising, leafRises, leafFalls, rising, falling}
 use Rattle.guard_code.specs.declared.Judged.{Judged}
+use Rattle.guard_code.specs.declared.Marks.{Marks}
 use Rattle.guard_code.specs.inner.Bytes.{operandsOf, leafUsed, leafMarked, turned, kept, judgement, paired, tripled, agreed, judgedBoth}
 use Rattle.guard_code.specs.inner.Bytes.{judgedSecond, judgedFirst, judgedTurned, judged, trendAt, fallsAt}
 use Rattle.guard_code.proofs.GuardOnBytes.{rest, some-byte, leaf-within, Scene, counted, byte-there, fits, behind-one, behind-two}
@@ -104,17 +105,6 @@ judged-inside n mine others part k a h e =
     omega (arith, length-drop k part)
 
 -- a command without operands, as the code judges it
-pub leaf-variable : (marks : List Bool) (part : List ℕ) {o v u : ℕ} {y : Bool} → o ≡ getD part 0 0 → o ≡ 0x21 → v ≡ getD part 1 0
-    → y ≡ getD marks v false → u ≡ leafUsed part
-    → record { yes = y; used = u } ≡ judgement (leafMarked marks part) (leafUsed part)
-unfolding leafMarked
-leaf-variable marks part e k f g h = rw (← e, k, ← f, ← g, h)
-
-pub leaf-other : (marks : List Bool) (part : List ℕ) {o u : ℕ} → o ≡ getD part 0 0 → (o ≡ 0x21 → ⊥) → u ≡ leafUsed part
-    → record { yes = true; used = u } ≡ judgement (leafMarked marks part) (leafUsed part)
-unfolding leafMarked
-leaf-other marks part {o} e k h = rw (← e, ne-eqb o 0x21 k, h)
-
 pub judge-leaf : (depth : ℕ) (mine others : List ℕ → Bool) (part : List ℕ) {o n : ℕ} {r : Judged}
     → (depth ≡ 0 → ⊥) → o ≡ getD part 0 0 → n ≡ operandsOf o → n ≡ 0 → r ≡ judgement (mine part) (leafUsed part) → r ≡ trendAt depth mine others part
 unfolding judged
@@ -458,17 +448,26 @@ module _ (fields : List Kind) (c : Config) (ks : List Clause) (P : Leaf → Type
   judge-encode (IF a b d) (suc n) h k =
       same-branches n a b d (judge-encode a n (h .0) (omega arith)) (judge-encode b n (h .1) (omega arith)) (judge-encode d n (h .2) (omega arith))
 
--- the marks of variables read a leaf as the definition judges it
-module _ (fields : List Kind) (c : Config) (ks : List Clause) (states : ℕ) where
-  pub marked-rises : (grows : List Bool) → ((v : ℕ) → v < 8 → getD grows v false ≡ (isHeld c v || fieldRises fields (firstBind ks v)))
-      → (x : Leaf) (l : List ℕ) → LeafExists states x → leafMarked grows (encodeLeaf x ++ l) ≡ leafRises fields c ks x
+-- marks that agree with the definition read a leaf as it judges the leaf
+module _ (fields : List Kind) (c : Config) (ks : List Clause) (states : ℕ) (marks : Marks)
+    (same : (v : ℕ) → v < 4 → getD (marks .differents) v false ≡ not (gathers ks v)) where
+  pub marked-rises : ((v : ℕ) → v < 8 → getD (marks .variables) v false ≡ (isHeld c v || fieldRises fields (firstBind ks v)))
+      → ((v : ℕ) → v < 4 → getD (marks .sums) v false ≡ gathersRising fields ks v)
+      → (x : Leaf) (l : List ℕ) → LeafExists states x → leafMarked marks (encodeLeaf x ++ l) ≡ leafRises fields c ks x
   unfolding leafMarked
-  marked-rises grows grow (CONST x) l h = refl
-  marked-rises grows grow (VAR v) l h = grow v h
-  marked-rises grows grow (COUNT s) l h = refl
+  marked-rises grow grow′ (CONST x) l h = refl
+  marked-rises grow grow′ (VAR v) l h = grow v h
+  marked-rises grow grow′ (COUNT s) l h = refl
+  marked-rises grow grow′ (SUM v) l h = let e : 8 + v - 8 ≡ v = omega arith in rw e (grow′ v h)
+  marked-rises grow grow′ (LENGTH v) l h = refl
+  marked-rises grow grow′ (DIFFERENT v) l h = let e : 8 + v - 8 ≡ v = omega arith in rw e (same v h)
 
-  pub marked-falls : (x : Leaf) (l : List ℕ) → LeafExists states x → leafMarked (c .held) (encodeLeaf x ++ l) ≡ leafFalls fields c ks x
+  pub marked-falls : marks .variables ≡ c .held → ((v : ℕ) → v < 4 → getD (marks .sums) v false ≡ not (gathers ks v))
+      → (x : Leaf) (l : List ℕ) → LeafExists states x → leafMarked marks (encodeLeaf x ++ l) ≡ leafFalls fields c ks x
   unfolding leafMarked
-  marked-falls (CONST x) l h = refl
-  marked-falls (VAR v) l h = refl
-  marked-falls (COUNT s) l h = refl
+  marked-falls e fall (CONST x) l h = refl
+  marked-falls e fall (VAR v) l h = rw e
+  marked-falls e fall (COUNT s) l h = refl
+  marked-falls e fall (SUM v) l h = let e : 8 + v - 8 ≡ v = omega arith in rw e (fall v h)
+  marked-falls e fall (LENGTH v) l h = refl
+  marked-falls e fall (DIFFERENT v) l h = let e : 8 + v - 8 ≡ v = omega arith in rw e (same v h)

@@ -17,7 +17,7 @@ pub fn sum(a: u32, b: u32) -> u32
 }
 
 // "SUB at 0".
-fn difference(a: u32, b: u32) -> u32
+pub fn difference(a: u32, b: u32) -> u32
     ensures { λ r. ⌜ r ≡ a - b ⌝ }
 {
     if b <= a { a - b } else { 0 }
@@ -52,7 +52,7 @@ fn apply(command: u32, a: u32, b: u32, d: u32) -> u32
     }
 }
 
-// The value of a variable or a field, or a state's counter, by its number; 0 where there is none.
+// The value of a variable or a field, a state's counter or a list's tally, by its number; 0 where there is none.
 pub fn value_of(values: &[u32], n: u32) -> u32
     ensures { λ r. ⌜ r ≡ getD (now (values .entry)) n 0 ⌝ }
 {
@@ -60,15 +60,19 @@ pub fn value_of(values: &[u32], n: u32) -> u32
     if i < values.len() { values[i] } else { 0 }
 }
 
-// The value of a command without operands.
-fn leaf_value(part: &[u8], values: &[u32], counters: &[u32]) -> u32
-    ensures { λ r. ⌜ r ≡ leafValue (now (values .entry)) (now (counters .entry)) (now (part .entry)) ⌝ }
+// The value of a command without operands. A list is written 8 + v; its sum, its length and its number of different values stand at v, 4 + v and 8 + v.
+fn leaf_value(part: &[u8], values: &[u32], counters: &[u32], tallies: &[u32]) -> u32
+    ensures { λ r. ⌜ r ≡ leafValue (now (values .entry)) (now (counters .entry)) (now (tallies .entry)) (now (part .entry)) ⌝ }
 {
     let command = base::byte_at(part, 0);
+    let operand = base::byte_at(part, 1);
     match command {
         0x20 => base::value_at(part, 1),
-        0x21 => value_of(values, base::byte_at(part, 1)),
-        0x22 => value_of(counters, base::byte_at(part, 1)),
+        0x21 => value_of(values, operand),
+        0x22 => value_of(counters, operand),
+        0x2C => value_of(tallies, difference(operand, 8)),
+        0x2D => value_of(tallies, difference(operand, 4)),
+        0x2E => value_of(tallies, operand),
         _ => 0,
     }
 }
@@ -81,6 +85,9 @@ fn leaf_width(command: u32) -> usize
         0x20 => 5,
         0x21 => 2,
         0x22 => 2,
+        0x2C => 2,
+        0x2D => 2,
+        0x2E => 2,
         _ => 0,
     }
 }
@@ -98,8 +105,14 @@ pub fn leaf_used(part: &[u8]) -> usize
 }
 
 // The value of the expression at the front, and the bytes that it takes; at most so many commands nested.
-fn evaluate(part: &[u8], values: &[u32], counters: &[u32], depth: usize) -> Evaluated
-    ensures { λ r. ⌜ r ≡ evaluated depth (leafValue (now (values .entry)) (now (counters .entry))) (now (part .entry)) ⌝ }
+fn evaluate(
+    part: &[u8],
+    values: &[u32],
+    counters: &[u32],
+    tallies: &[u32],
+    depth: usize,
+) -> Evaluated
+    ensures { λ r. ⌜ r ≡ evaluated depth (leafValue (now (values .entry)) (now (counters .entry)) (now (tallies .entry))) (now (part .entry)) ⌝ }
 {
     if depth == 0 {
         return Evaluated { value: 0, used: 0 };
@@ -107,14 +120,12 @@ fn evaluate(part: &[u8], values: &[u32], counters: &[u32], depth: usize) -> Eval
     let command = base::byte_at(part, 0);
     let operands = operand_count(command);
     if operands == 0 {
-        let value = leaf_value(part, values, counters);
-        return Evaluated {
-            value,
-            used: leaf_used(part),
-        };
+        let value = leaf_value(part, values, counters, tallies);
+        let used = leaf_used(part);
+        return Evaluated { value, used };
     }
     let inner = depth - 1;
-    let a = evaluate(&part[1..], values, counters, inner);
+    let a = evaluate(&part[1..], values, counters, tallies, inner);
     let second = 1 + a.used;
     if operands == 1 {
         return Evaluated {
@@ -122,29 +133,32 @@ fn evaluate(part: &[u8], values: &[u32], counters: &[u32], depth: usize) -> Eval
             used: second,
         };
     }
-    let b = evaluate(&part[second..], values, counters, inner);
+    let b = evaluate(&part[second..], values, counters, tallies, inner);
     let third = second + b.used;
     if operands == 2 {
-        return Evaluated {
-            value: apply(command, a.value, b.value, 0),
-            used: third,
-        };
+        let value = apply(command, a.value, b.value, 0);
+        return Evaluated { value, used: third };
     }
-    let d = evaluate(&part[third..], values, counters, inner);
-    Evaluated {
-        value: apply(command, a.value, b.value, d.value),
-        used: third + d.used,
-    }
+    let d = evaluate(&part[third..], values, counters, tallies, inner);
+    let value = apply(command, a.value, b.value, d.value);
+    let used = third + d.used;
+    Evaluated { value, used }
 }
 
 // Whether the guard at an offset is nonzero; where none stands, true.
-pub fn guard_holds(f: &[u8], at: usize, values: [u32; 8], counters: [u32; 16]) -> bool
-    ensures { λ r. ⌜ r ≡ guardAt (leafValue values counters) (now (f .entry)) at ⌝ }
+pub fn guard_holds(
+    f: &[u8],
+    at: usize,
+    values: [u32; 8],
+    counters: [u32; 16],
+    tallies: [u32; 12],
+) -> bool
+    ensures { λ r. ⌜ r ≡ guardAt (leafValue values counters tallies) (now (f .entry)) at ⌝ }
 {
     let command = base::byte_at(f, at);
     if command == 0x15 {
         let from = at + 1;
-        let e = evaluate(&f[from..], &values, &counters, 8);
+        let e = evaluate(&f[from..], &values, &counters, &tallies, 8);
         return 0 < e.value;
     }
     true

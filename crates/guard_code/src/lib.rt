@@ -8,6 +8,13 @@ struct Evaluated {
     used: usize,
 }
 
+// Which leaves are rising, or which are falling: the variables, the sums and the numbers of different values of the lists.
+pub struct Marks {
+    pub variables: [bool; 8],
+    pub sums: [bool; 4],
+    pub differents: [bool; 4],
+}
+
 // Whether an expression is rising, or falling, and the bytes that it took.
 struct Judged {
     yes: bool,

@@ -1,5 +1,7 @@
 // "Rising and falling are worked out on the expression, each from the other", by recursion over its bytes.
 use crate::Judged;
+use crate::Marks;
+use crate::guard::difference;
 use crate::guard::leaf_used;
 use crate::guard::operand_count;
 ghost use mathlib.Core.Path.{_≡_};
@@ -39,7 +41,7 @@ fn judge(flag: bool, used: usize) -> Judged
     Judged { yes: flag, used }
 }
 
-// A variable's or a field's mark, false where there is none.
+// A variable's, a field's or a list's mark, false where there is none.
 pub fn mark_of(marks: &[bool], n: u32) -> bool
     ensures { λ r. ⌜ r ≡ getD (now (marks .entry)) n false ⌝ }
 {
@@ -47,18 +49,30 @@ pub fn mark_of(marks: &[bool], n: u32) -> bool
     if i < marks.len() { marks[i] } else { false }
 }
 
-// Constants and counters are both; a variable is what its mark says.
-fn leaf(part: &[u8], marks: [bool; 8]) -> Judged
-    ensures { λ r. ⌜ r ≡ judgement (leafMarked marks (now (part .entry))) (leafUsed (now (part .entry))) ⌝ }
+// "constants, counters .. are both", and a length; any other leaf is what its mark says.
+fn marked(part: &[u8], marks: Marks) -> bool
+    ensures { λ r. ⌜ r ≡ leafMarked marks (now (part .entry)) ⌝ }
 {
     let command = base::byte_at(part, 0);
-    let used = leaf_used(part);
+    let operand = base::byte_at(part, 1);
+    let variables = marks.variables;
+    let sums = marks.sums;
+    let differents = marks.differents;
     match command {
-        0x21 => Judged {
-            yes: mark_of(&marks, base::byte_at(part, 1)),
-            used,
-        },
-        _ => Judged { yes: true, used },
+        0x21 => mark_of(&variables, operand),
+        0x2C => mark_of(&sums, difference(operand, 8)),
+        0x2E => mark_of(&differents, difference(operand, 8)),
+        _ => true,
+    }
+}
+
+// A command without operands, judged.
+fn leaf(part: &[u8], marks: Marks) -> Judged
+    ensures { λ r. ⌜ r ≡ judgement (leafMarked marks (now (part .entry))) (leafUsed (now (part .entry))) ⌝ }
+{
+    Judged {
+        yes: marked(part, marks),
+        used: leaf_used(part),
     }
 }
 
@@ -93,8 +107,8 @@ fn agree(a: Judged, z: Judged) -> Judged
     }
 }
 
-// Whether the expression at the front is rising; `grows` marks the variables that are.
-fn rising_at(part: &[u8], held: [bool; 8], grows: [bool; 8], depth: usize) -> Judged
+// Whether the expression at the front is rising; `grows` marks the leaves that are.
+fn rising_at(part: &[u8], held: Marks, grows: Marks, depth: usize) -> Judged
     ensures { λ r. ⌜ r ≡ trendAt depth (leafMarked grows) (leafMarked held) (now (part .entry)) ⌝ }
 {
     if depth == 0 {
@@ -131,8 +145,8 @@ fn rising_at(part: &[u8], held: [bool; 8], grows: [bool; 8], depth: usize) -> Ju
     triple(c, b, rising_at(&part[last..], held, grows, inner))
 }
 
-// Whether it is falling; `held` marks the variables that are.
-fn falling_at(part: &[u8], held: [bool; 8], grows: [bool; 8], depth: usize) -> Judged
+// Whether it is falling; `held` marks the leaves that are.
+fn falling_at(part: &[u8], held: Marks, grows: Marks, depth: usize) -> Judged
     ensures { λ r. ⌜ r ≡ trendAt depth (leafMarked held) (leafMarked grows) (now (part .entry)) ⌝ }
 {
     if depth == 0 {
@@ -170,7 +184,7 @@ fn falling_at(part: &[u8], held: [bool; 8], grows: [bool; 8], depth: usize) -> J
 }
 
 // Whether the guard at an offset is falling; where none stands, none falls.
-pub fn guard_falls(f: &[u8], at: usize, held: [bool; 8], grows: [bool; 8]) -> bool
+pub fn guard_falls(f: &[u8], at: usize, held: Marks, grows: Marks) -> bool
     ensures { λ r. ⌜ r ≡ fallsAt (leafMarked held) (leafMarked grows) (now (f .entry)) at ⌝ }
 {
     let command = base::byte_at(f, at);

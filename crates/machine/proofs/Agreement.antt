@@ -9,7 +9,7 @@ use native.Mathlib.Omega.{arith}
 use lib.Dec.{eqb}
 use borrow.Author.Tests.{eqb-true, eqb-false, eq-eqb}
 use Rattle.event_log.specs.Log.{Values}
-use Rattle.formula.specs.Formula.{Operator, Clause, TEST, TESTV, BIND, Step}
+use Rattle.formula.specs.Formula.{Operator, Clause, TEST, TESTV, BIND, GATHER, Step}
 use Rattle.machine.specs.Configuration.{Config}
 use Rattle.machine.specs.inner.Valid.{Valid}
 use Rattle.machine.specs.Guard.{guardHolds}
@@ -69,6 +69,9 @@ first-of (TEST g o x ∷ ks) f v m =
 first-of (TESTV g o u ∷ ks) f v m =
     past (TESTV g o u) ks v refl
     (first-of ks f v (behind (TESTV g o u) ks f v (λ (q : BIND f v ≡ TESTV g o u). let z : _≡_ {A = ℕ} 0 1 = cc in omega arith) m))
+first-of (GATHER g u ∷ ks) f v m =
+    past (GATHER g u) ks v refl
+    (first-of ks f v (behind (GATHER g u) ks f v (λ (q : BIND f v ≡ GATHER g u). let z : _≡_ {A = ℕ} 0 1 = cc in omega arith) m))
 first-of (BIND g u ∷ ks) f v m = go (first-of ks f v) (eqb u v) refl
   where
     go : (Has ks (BIND f v) → First ks v) → (b : Bool) → eqb u v ≡ b → First (BIND g u ∷ ks) v
@@ -115,3 +118,4 @@ means-fires states c s e valid below h = and-true (allPass c d e (s .clauses)) (
     pass (TEST f o x) m = h .tests f o x m
     pass (TESTV f o v) m = h .testvs f o v m
     pass (BIND f v) m = eq-eqb (field e f) (valueOf d v) (agrees f v m (isHeld c v) refl)
+    pass (GATHER f v) m = refl

@@ -10,14 +10,14 @@ use lib.Seq.{getD-set-same, getD-set-other}
 use lib.Dec.{eqb}
 use borrow.Author.Tests.{eqb-true, eqb-false}
 use Rattle.event_log.specs.Log.{Values}
-use Rattle.formula.specs.Formula.{Clause, TEST, TESTV, BIND}
+use Rattle.formula.specs.Formula.{Clause, TEST, TESTV, BIND, GATHER}
 use Rattle.machine.specs.Configuration.{Config}
 use Rattle.machine.specs.Firing.{field, valueOf, isHeld, hold, bindAll}
 use Rattle.machine.specs.Expiry.{firstBind}
 
 -- the configuration with v holding x
 abbrev pub put : Config → ℕ → ℕ → Config
-put c v x = record { state = c .state; held = set (c .held) v true; values = set (c .values) v x; counters = c .counters }
+put c v x = record { state = c .state; held = set (c .held) v true; values = set (c .values) v x; counters = c .counters; lists = c .lists }
 
 pub hold-held : (c : Config) (v x : ℕ) → isHeld c v ≡ true → hold c v x ≡ c
 unfolding hold
@@ -57,6 +57,7 @@ pub bind-keeps : (c : Config) (e : Values) (ks : List Clause) (v : ℕ) → isHe
 bind-keeps c e [] v h = record { held-kept = refl; value-kept = refl }
 bind-keeps c e (TEST f o x ∷ ks) v h = bind-keeps c e ks v h
 bind-keeps c e (TESTV f o u ∷ ks) v h = bind-keeps c e ks v h
+bind-keeps c e (GATHER f u ∷ ks) v h = bind-keeps c e ks v h
 bind-keeps c e (BIND f u ∷ ks) v h =
     let k = hold-keeps c u v (field e f) h in
     kept-trans c (hold c u (field e f)) (bindAll (hold c u (field e f)) e ks) v k (bind-keeps (hold c u (field e f)) e ks v (k .held-kept ∙ h))
@@ -84,6 +85,7 @@ pub bind-shape : (c : Config) (e : Values) (ks : List Clause) → Shape c (bindA
 bind-shape c e [] = shape-self c
 bind-shape c e (TEST f o x ∷ ks) = bind-shape c e ks
 bind-shape c e (TESTV f o u ∷ ks) = bind-shape c e ks
+bind-shape c e (GATHER f u ∷ ks) = bind-shape c e ks
 bind-shape c e (BIND f u ∷ ks) =
     let p = hold-shape c u (field e f) in
     let q = bind-shape (hold c u (field e f)) e ks in
@@ -105,6 +107,7 @@ pub bind-first : (c : Config) (e : Values) (ks : List Clause) (v : ℕ) → v < 
 bind-first c e [] v h k n = refl
 bind-first c e (TEST f o x ∷ ks) v h k n = bind-first c e ks v h k n
 bind-first c e (TESTV f o u ∷ ks) v h k n = bind-first c e ks v h k n
+bind-first c e (GATHER f u ∷ ks) v h k n = bind-first c e ks v h k n
 bind-first c e (BIND f u ∷ ks) v h k n = go (bind-first (hold c u (field e f)) e ks v) (eqb u v) refl
   where
     go : (v < length ((hold c u (field e f)) .held) → v < length ((hold c u (field e f)) .values) → isHeld (hold c u (field e f)) v ≡ false

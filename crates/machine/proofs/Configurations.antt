@@ -10,7 +10,7 @@ use borrow.Author.Tests.{eqb-true, eq-eqb}
 use Rattle.base.specs.Lists.{sameList}
 use Rattle.base.proofs.Same.{list-equal, list-same}
 use Rattle.machine.specs.Configuration.{Config, same, addOne}
-use Rattle.machine.specs.inner.Valid.{total}
+use Rattle.machine.specs.Guard.{total}
 use Rattle.base.proofs.Tests.{and-left, and-right}
 
 bool-equal : (a b : Bool) → Bool·beq a b ≡ true → a ≡ b
@@ -24,12 +24,14 @@ bool-same true = refl
 bool-same false = refl
 
 -- configurations with equal parts are equal
-equal-parts : (c d : Config) → c .state ≡ d .state → c .held ≡ d .held → c .values ≡ d .values → c .counters ≡ d .counters → c ≡ d
-equal-parts c d p q r s = made (c .state) (d .state) (c .held) (d .held) (c .values) (d .values) (c .counters) (d .counters) p q r s
+equal-parts : (c d : Config) → c .state ≡ d .state → c .held ≡ d .held → c .values ≡ d .values → c .counters ≡ d .counters → c .lists ≡ d .lists → c ≡ d
+equal-parts c d p q r s t =
+    made (c .state) (d .state) (c .held) (d .held) (c .values) (d .values) (c .counters) (d .counters) (c .lists) (d .lists) p q r s t
   where
-    made : (a a′ : ℕ) (h h′ : List Bool) (x x′ : List ℕ) (n n′ : List ℕ) → a ≡ a′ → h ≡ h′ → x ≡ x′ → n ≡ n′
-        → _≡_ {A = Config} (record { state = a; held = h; values = x; counters = n }) (record { state = a′; held = h′; values = x′; counters = n′ })
-    made a a′ h h′ x x′ n n′ p q r s = rw (p, q, r, s)
+    made : (a a′ : ℕ) (h h′ : List Bool) (x x′ : List ℕ) (n n′ : List ℕ) (l l′ : List (List ℕ)) → a ≡ a′ → h ≡ h′ → x ≡ x′ → n ≡ n′ → l ≡ l′
+        → _≡_ {A = Config} (record { state = a; held = h; values = x; counters = n; lists = l })
+        (record { state = a′; held = h′; values = x′; counters = n′; lists = l′ })
+    made a a′ h h′ x x′ n n′ l l′ p q r s t = rw (p, q, r, s, t)
 
 pub same-equal : (c d : Config) → same c d ≡ true → c ≡ d
 unfolding same
@@ -38,17 +40,27 @@ same-equal c d h =
     let p₂ = sameList Bool·beq (c .held) (d .held) in
     let p₃ = sameList eqb (c .values) (d .values) in
     let p₄ = sameList eqb (c .counters) (d .counters) in
-    let h₃ = and-left (p₁ && p₂ && p₃) p₄ h in
+    let p₅ = sameList (sameList eqb) (c .lists) (d .lists) in
+    let h₄ = and-left (p₁ && p₂ && p₃ && p₄) p₅ h in
+    let h₃ = and-left (p₁ && p₂ && p₃) p₄ h₄ in
     let h₂ = and-left (p₁ && p₂) p₃ h₃ in
     equal-parts c d (eqb-true (c .state) (d .state) (and-left p₁ p₂ h₂)) (list-equal Bool·beq bool-equal (c .held) (d .held) (and-right p₁ p₂ h₂))
     (list-equal eqb eqb-true (c .values) (d .values) (and-right (p₁ && p₂) p₃ h₃))
-    (list-equal eqb eqb-true (c .counters) (d .counters) (and-right (p₁ && p₂ && p₃) p₄ h))
+    (list-equal eqb eqb-true (c .counters) (d .counters) (and-right (p₁ && p₂ && p₃) p₄ h₄))
+    (list-equal (sameList eqb) (list-equal eqb eqb-true) (c .lists) (d .lists) (and-right (p₁ && p₂ && p₃ && p₄) p₅ h))
 
 pub equal-same : (c : Config) → same c c ≡ true
 unfolding same
 equal-same c =
     let e : (x : ℕ) → eqb x x ≡ true = λ x. eq-eqb x x refl in
-    rw (e (c .state), list-same Bool·beq bool-same (c .held), list-same eqb e (c .values), list-same eqb e (c .counters))
+    rw (
+      e (c .state),
+      list-same Bool·beq bool-same (c .held),
+      list-same eqb e (c .values),
+      list-same eqb e (c .counters),
+      list-same (sameList eqb)
+          (list-same eqb e) (c .lists),
+    )
 
 -- adding one to a counter adds one to the sum
 pub total-add-one : (l : List ℕ) (s : ℕ) → total (addOne l s) ≡ suc (total l)

@@ -8,8 +8,9 @@ use native.Mathlib.Omega.{arith}
 use lib.ListN.{getD, replicate}
 use Rattle.event_log.specs.Log.{plain, rising as risingField, Log, eventAt}
 use Rattle.event_log.specs.Correct as LogCorrect
-use Rattle.formula.specs.Formula.{equal, less, atmost, Clause, TEST, TESTV, BIND, Step, ordinary, accept, Formula, CONST, VAR, COUNT, Expr, LEAF}
-use Rattle.formula.specs.Formula.{LESS, EQUAL, OR, IF}
+use Rattle.formula.specs.Formula.{equal, less, atmost, Clause, TEST, TESTV, BIND, GATHER, Step, ordinary, accept, Formula}
+use Rattle.formula.specs.Formula.{CONST, VAR, COUNT, SUM, LENGTH, DIFFERENT, Expr, LEAF}
+use Rattle.formula.specs.Formula.{LESS, ATMOST, EQUAL, OR, IF}
 use Rattle.formula.specs.Unbound.{stepsOf}
 use Rattle.formula.specs.Lookup.{stepAt}
 use Rattle.machine.specs.Configuration.{Config, start}
@@ -66,7 +67,7 @@ testv-before = refl
 
 -- a variable that holds x, and nothing else, in state s with these counters
 abbrev holding : ℕ → ℕ → List ℕ → Config
-holding s x counters = record { state = s; held = true ∷ replicate 7 false; values = x ∷ replicate 7 0; counters = counters }
+holding s x counters = record { state = s; held = true ∷ replicate 7 false; values = x ∷ replicate 7 0; counters = counters; lists = replicate 4 [] }
 
 -- two BINDs of one variable fire with one value, and only then; one is added to the state being left
 pub binds-equal : fire start (bare 1 (BIND 0 0 ∷ BIND 1 0 ∷ [])) (7 ∷ 7 ∷ []) ≡ some (holding 1 7 (1 ∷ replicate 15 0))
@@ -125,6 +126,57 @@ if-not-expired = refl
 pub if-fires-later : fires start late-enough (10 ∷ []) ≡ true
 unfolding fires leave hold start value
 if-fires-later = refl
+
+-- a configuration in state 0 whose first list is l
+abbrev gathering : List ℕ → Config
+gathering l = record { state = 0; held = replicate 8 false; values = replicate 8 0; counters = replicate 16 0; lists = l ∷ [] ∷ [] ∷ [] ∷ [] }
+
+-- "a list never gathered is empty": 0, 0, 0
+pub never-gathered : (value start (LEAF (SUM 3)) ≡ 0) × (value start (LEAF (LENGTH 3)) ≡ 0) × (value start (LEAF (DIFFERENT 3)) ≡ 0)
+unfolding value start
+never-gathered = (refl, refl, refl)
+
+-- "its sum, stopping at 4294967295"
+pub sum-stops : value (gathering (4294967295 ∷ 1 ∷ [])) (LEAF (SUM 0)) ≡ 4294967295
+unfolding value
+sum-stops = refl
+
+-- "its length", "the number of different values"
+pub lists-read : (value (gathering (5 ∷ 7 ∷ 5 ∷ [])) (LEAF (LENGTH 0)) ≡ 3) × (value (gathering (5 ∷ 7 ∷ 5 ∷ [])) (LEAF (DIFFERENT 0)) ≡ 2)
+unfolding value
+lists-read = (refl, refl)
+
+-- the guard reads the list after the step
+pub guard-after-gathering : fires (gathering (3 ∷ [])) (guarded 1 (GATHER 0 0 ∷ []) (EQUAL (LEAF (SUM 0)) (LEAF (CONST 7)))) (4 ∷ []) ≡ true
+unfolding fires leave value
+guard-after-gathering = refl
+
+-- a falling guard over a sum: at most 6, with 3 gathered before
+abbrev few : Step
+few = guarded 1 (GATHER 0 0 ∷ []) (ATMOST (LEAF (SUM 0)) (LEAF (CONST 6)))
+
+-- of a rising field: hopeless where the sum would pass the bound, not before
+pub sum-not-late : expired (risingField ∷ []) (gathering (3 ∷ [])) few (3 ∷ []) ≡ false
+unfolding expired leave value falling rising
+sum-not-late = refl
+
+pub sum-late : expired (risingField ∷ []) (gathering (3 ∷ [])) few (4 ∷ []) ≡ true
+unfolding expired leave value falling rising
+sum-late = refl
+
+-- of a plain field: never
+pub sum-plain : (x : ℕ) → expired (plain ∷ []) (gathering (3 ∷ [])) few (x ∷ []) ≡ false
+unfolding expired leave value falling rising
+sum-plain x = refl
+
+-- a length is both; the number of different values is neither where the step gathers
+pub length-late : expired (plain ∷ []) (gathering (3 ∷ [])) (guarded 1 (GATHER 0 0 ∷ []) (LESS (LEAF (LENGTH 0)) (LEAF (CONST 2)))) (4 ∷ []) ≡ true
+unfolding expired leave value falling rising
+length-late = refl
+
+pub different-open : expired (risingField ∷ []) (gathering (3 ∷ [])) (guarded 1 (GATHER 0 0 ∷ []) (LESS (LEAF (DIFFERENT 0)) (LEAF (CONST 2)))) (4 ∷ []) ≡ false
+unfolding expired leave value falling rising
+different-open = refl
 
 -- the bench's log L and formula F: time and code, trip and open
 abbrev pub L : Log

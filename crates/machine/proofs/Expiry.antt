@@ -11,14 +11,16 @@ use lib.ListN.{length, List·getD-eq-default}
 use lib.Dec.{ltb, leb}
 use borrow.Author.Tests.{ltb-false, leb-false, le-ltb, lt-leb, not-true}
 use Rattle.event_log.specs.Log.{Kind, Values}
-use Rattle.formula.specs.Formula.{Operator, equal, unequal, less, greater, atmost, atleast, Clause, TEST, TESTV, BIND, Step, Leaf, CONST, VAR, COUNT, Expr}
+use Rattle.formula.specs.Formula.{Operator, equal, unequal, less, greater, atmost, atleast, Clause, TEST, TESTV, BIND, GATHER, Step}
+use Rattle.formula.specs.Formula.{Leaf, CONST, VAR, COUNT, SUM, LENGTH, DIFFERENT, Expr}
 use Rattle.machine.specs.Configuration.{Config}
 use Rattle.machine.specs.inner.Valid.{Valid}
-use Rattle.machine.specs.Guard.{leaf, value, guardHolds}
+use Rattle.machine.specs.Guard.{sum, different, leaf, value, guardHolds}
 use Rattle.machine.specs.Firing.{holds, field, valueOf, isHeld, bindAll, leave, passes, allPass, fires, fire}
-use Rattle.machine.specs.Expiry.{rises, firstBind, fieldRises, leafRises, leafFalls, missed, pastDue, anyPastDue, guardFalls, expired}
+use Rattle.machine.specs.Expiry.{rises, firstBind, fieldRises, gathers, leafRises, leafFalls, missed, pastDue, anyPastDue, guardFalls, expired}
 use Rattle.base.proofs.Tests.{and-left, and-right, and-keep, and-false, or-keep, or-false, not-true-false}
 use Rattle.machine.proofs.Binding.{bind-keeps, bind-shape, bind-first, taken}
+use Rattle.machine.proofs.Gathering.{list-stays, length-stays, sum-grows}
 use Rattle.machine.proofs.Trend.{Trend, trend, truth-down}
 
 -- every rising field is at least as large in y as in x
@@ -41,6 +43,7 @@ module _ (fields : List Kind) (x y : Values) (grows : Grows fields x y) where
       and-keep (rises fields f) (missed o (field x f) (valueOf c v)) (missed o (field y f) (valueOf c v))
       (λ r. missed-stays o (field x f) (field y f) (valueOf c v) (grows f r)) h
   past-due-stays c (BIND f v) h = h
+  past-due-stays c (GATHER f v) h = h
 
   any-past-due-stays : (c : Config) (ks : List Clause) → anyPastDue fields c x ks ≡ true → anyPastDue fields c y ks ≡ true
   any-past-due-stays c [] h = h
@@ -82,12 +85,18 @@ module _ (fields : List Kind) (x y : Values) (grows : Grows fields x y) where
     leaf-grows (CONST z) h = le-refl _
     leaf-grows (VAR v) h = variable-grows v h
     leaf-grows (COUNT t) h = le-refl _
+    leaf-grows (SUM v) h = sum-grows fields x y grows (c .lists) ks v h
+    leaf-grows (LENGTH v) h = omega (arith, length-stays fields x y grows (c .lists) ks v)
+    leaf-grows (DIFFERENT v) h = omega (arith, ap different (list-stays fields x y grows (c .lists) ks v (not-true (gathers ks v) h)))
 
     leaf-shrinks : (l : Leaf) → leafFalls fields c ks l ≡ true → leaf (leave c s y) l ≤ leaf (leave c s x) l
     unfolding leave
     leaf-shrinks (CONST z) h = le-refl _
     leaf-shrinks (VAR v) h = omega (arith, held-stays v h)
     leaf-shrinks (COUNT t) h = le-refl _
+    leaf-shrinks (SUM v) h = omega (arith, ap sum (list-stays fields x y grows (c .lists) ks v (not-true (gathers ks v) h)))
+    leaf-shrinks (LENGTH v) h = omega (arith, length-stays fields x y grows (c .lists) ks v)
+    leaf-shrinks (DIFFERENT v) h = omega (arith, ap different (list-stays fields x y grows (c .lists) ks v (not-true (gathers ks v) h)))
 
     -- Rising guards only grow, falling ones only shrink, from what the step leaves on x to what it leaves on y.
     pub guard-trend : (g : Expr) → Trend fields c ks (leave c s x) (leave c s y) g
@@ -122,6 +131,7 @@ passes-not-due : (fields : List Kind) (c d : Config) (e : Values) (k : Clause) �
 passes-not-due fields c d e (TEST f o z) h = and-false (rises fields f) (missed o (field e f) z) (holds-not-missed o (field e f) z h)
 passes-not-due fields c d e (TESTV f o v) h = and-false (rises fields f) (missed o (field e f) (valueOf c v)) (holds-not-missed o (field e f) (valueOf c v) h)
 passes-not-due fields c d e (BIND f v) h = refl
+passes-not-due fields c d e (GATHER f v) h = refl
 
 all-pass-none-due : (fields : List Kind) (c d : Config) (e : Values) (ks : List Clause) → allPass c d e ks ≡ true → anyPastDue fields c e ks ≡ false
 all-pass-none-due fields c d e [] h = refl

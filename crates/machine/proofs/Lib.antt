@@ -1,9 +1,12 @@
 -- Laws of one step: same configurations, binding, rising and falling, expiry, the machine, examples.
 pub mod Configurations
 pub mod Binding
+pub mod Gathering
 pub mod Trend
 pub mod Expiry
 pub mod Machine
+pub mod Along
+pub mod Carried
 pub mod Walk
 pub mod Examples
 pub mod Agreement

@@ -18,20 +18,22 @@ use Rattle.event_log.specs.Correct.{value, Recorded}
 use Rattle.event_log.specs.Latest.{latest}
 use Rattle.event_log.proofs.LastSeen.{latest-is}
 use Rattle.event_log.proofs.Rising.{never-falls-to}
-use Rattle.formula.specs.Formula.{Formula, State, ordinary, Step, Clause, TEST, TESTV, BIND}
+use Rattle.formula.specs.Formula.{Formula, State, ordinary, Step, Clause, TEST, TESTV, BIND, GATHER}
 use Rattle.formula.specs.Unbound.{stepsOf}
 use Rattle.formula.specs.Lookup.{stepAt}
 use Rattle.runs.specs.inner.Laws.{Laws}
 use Rattle.machine.specs.Configuration.{Config, start}
-use Rattle.machine.specs.inner.Valid.{total, Valid}
+use Rattle.machine.specs.inner.Valid.{Valid}
+use Rattle.machine.specs.Guard.{total}
 use Rattle.machine.specs.Firing.{field, isHeld, hold, bindAll, leave, fires, fire}
 use Rattle.machine.specs.Expiry.{isRising}
 use Rattle.machine.specs.Machine.{fireBy, fireAt, expiredBy, expiredAt, final, machine}
 use Rattle.machine.proofs.Configurations.{same-equal, equal-same, total-add-one, length-add-one}
 use Rattle.machine.proofs.Binding.{hold-held, hold-new}
+use Rattle.machine.proofs.Gathering.{length-gather-all}
 use Rattle.machine.proofs.Expiry.{Grows, stable-step, silent-step}
 
-all-getD : {A : Type 0} (P : A → Type 0) (l : List A) (i : ℕ) (d : A) → All P l → P d → P (getD l i d)
+pub all-getD : {A : Type 0} (P : A → Type 0) (l : List A) (i : ℕ) (d : A) → All P l → P d → P (getD l i d)
 all-getD P [] i d h k = k
 all-getD P (x ∷ xs) zero d h k = h .0
 all-getD P (x ∷ xs) (suc i) d h k = all-getD P xs i d (h .1) k
@@ -49,6 +51,7 @@ valid-start states h = record {
   values-8 = refl;
   counters-16 = refl;
   unheld-0 = λ v e. replicate-at 8 v 0;
+  lists-4 = refl;
   fits = omega arith;
 }
 
@@ -77,6 +80,7 @@ valid-hold states c v x h k = go (isHeld c v) refl
       values-8 = length-set (c .values) v x ∙ h .values-8;
       counters-16 = h .counters-16;
       unheld-0 = λ u n. unheld u (eqb u v) refl n (decLt u 8);
+      lists-4 = h .lists-4;
       fits = all-set (λ y. y < 4294967296) (c .values) v x (h .fits) k;
     })
 
@@ -88,6 +92,7 @@ valid-bind : (states : ℕ) (c : Config) (e : Values) (ks : List Clause) → Val
 valid-bind states c e [] h k = h
 valid-bind states c e (TEST f o x ∷ ks) h k = valid-bind states c e ks h k
 valid-bind states c e (TESTV f o v ∷ ks) h k = valid-bind states c e ks h k
+valid-bind states c e (GATHER f v ∷ ks) h k = valid-bind states c e ks h k
 valid-bind states c e (BIND f v ∷ ks) h k =
     valid-bind states (hold c v (field e f)) e ks (valid-hold states c v (field e f) h (all-getD (λ y. y < 4294967296) e f 0 k (omega arith))) k
 
@@ -102,6 +107,7 @@ valid-leave states c s e h k n t =
       values-8 = b .values-8;
       counters-16 = length-add-one (c .counters) (c .state) (omega (arith, h .declared, h .counters-16)) ∙ h .counters-16;
       unheld-0 = b .unheld-0;
+      lists-4 = length-gather-all (c .lists) e (s .clauses) ∙ h .lists-4;
       fits = b .fits;
     }
 

@@ -9,10 +9,10 @@ use lib.ListN.{length, List·getD-eq-default}
 use lib.Seq.{getD-set-same}
 use lib.Dec.{eqb}
 use Rattle.event_log.specs.Log.{Kind, Values}
-use Rattle.formula.specs.Formula.{Clause, TEST, TESTV, BIND, Step}
-use Rattle.machine.specs.Configuration.{Config}
+use Rattle.formula.specs.Formula.{Clause, TEST, TESTV, BIND, GATHER, Step}
+use Rattle.machine.specs.Configuration.{Config, addTo}
 use Rattle.machine.specs.Guard.{guardHolds}
-use Rattle.machine.specs.Firing.{holds, field, valueOf, isHeld, hold, bind, bindAll, leave, passes, allPass, fires, fire}
+use Rattle.machine.specs.Firing.{holds, field, valueOf, isHeld, hold, bind, bindAll, gatherAll, leave, passes, allPass, fires, fire}
 use Rattle.machine.specs.Expiry.{anyPastDue, expired}
 use Rattle.machine.specs.inner.Walk.{walk}
 use Rattle.machine.proofs.Binding.{hold-held, hold-new, hold-shape, bind-keeps, bind-shape}
@@ -44,11 +44,13 @@ settled d v x e ks p = go (decLt v 8)
 passes-so-far : (c d : Config) (e : Values) (k : Clause) (ks : List Clause) → Places d → passes c (bindAll (bind d e k) e ks) e k ≡ passes c (bind d e k) e k
 passes-so-far c d e (TEST f o x) ks p = refl
 passes-so-far c d e (TESTV f o v) ks p = refl
+passes-so-far c d e (GATHER f v) ks p = refl
 passes-so-far c d e (BIND f v) ks p = ap (λ (y : ℕ). eqb (field e f) y) (settled d v (field e f) e ks p)
 
 places-bind : (d : Config) (e : Values) (k : Clause) → Places d → Places (bind d e k)
 places-bind d e (TEST f o x) p = p
 places-bind d e (TESTV f o v) p = p
+places-bind d e (GATHER f v) p = p
 places-bind d e (BIND f v) p = places-hold d v (field e f) p
 
 pub walk-all : (c d : Config) (e : Values) (ks : List Clause) → Places d → allPass c (bindAll d e ks) e ks ≡ walk c d e ks
@@ -64,6 +66,7 @@ all-pass-values c d d′ e [] h = refl
 all-pass-values c d d′ e (TEST f o x ∷ ks) h = ap (λ (b : Bool). holds o (field e f) x && b) (all-pass-values c d d′ e ks h)
 all-pass-values c d d′ e (TESTV f o v ∷ ks) h = ap (λ (b : Bool). holds o (field e f) (valueOf c v) && b) (all-pass-values c d d′ e ks h)
 all-pass-values c d d′ e (BIND f v ∷ ks) h = rw (all-pass-values c d d′ e ks h, h)
+all-pass-values c d d′ e (GATHER f v ∷ ks) h = all-pass-values c d d′ e ks h
 
 -- Firing is the walk and the guard.
 pub fires-walk : (c : Config) (s : Step) (e : Values) → Places c
@@ -80,23 +83,33 @@ module _ (e e′ : Values) (alike : (f : ℕ) → field e f ≡ field e′ f) wh
   bind-fields c [] = refl
   bind-fields c (TEST f o x ∷ ks) = bind-fields c ks
   bind-fields c (TESTV f o v ∷ ks) = bind-fields c ks
+  bind-fields c (GATHER f v ∷ ks) = bind-fields c ks
   bind-fields c (BIND f v ∷ ks) = rw (alike f) (bind-fields (hold c v (field e′ f)) ks)
+
+  gather-fields : (ls : List (List ℕ)) (ks : List Clause) → gatherAll ls e ks ≡ gatherAll ls e′ ks
+  gather-fields ls [] = refl
+  gather-fields ls (TEST f o x ∷ ks) = gather-fields ls ks
+  gather-fields ls (TESTV f o v ∷ ks) = gather-fields ls ks
+  gather-fields ls (BIND f v ∷ ks) = gather-fields ls ks
+  gather-fields ls (GATHER f v ∷ ks) = rw (alike f) (gather-fields (addTo ls v (field e′ f)) ks)
 
   all-pass-fields : (c d : Config) (ks : List Clause) → allPass c d e ks ≡ allPass c d e′ ks
   all-pass-fields c d [] = refl
   all-pass-fields c d (TEST f o x ∷ ks) = rw (alike f, all-pass-fields c d ks)
   all-pass-fields c d (TESTV f o v ∷ ks) = rw (alike f, all-pass-fields c d ks)
   all-pass-fields c d (BIND f v ∷ ks) = rw (alike f, all-pass-fields c d ks)
+  all-pass-fields c d (GATHER f v ∷ ks) = all-pass-fields c d ks
 
   past-due-fields : (fields : List Kind) (c : Config) (ks : List Clause) → anyPastDue fields c e ks ≡ anyPastDue fields c e′ ks
   past-due-fields fields c [] = refl
   past-due-fields fields c (TEST f o x ∷ ks) = rw (alike f, past-due-fields fields c ks)
   past-due-fields fields c (TESTV f o v ∷ ks) = rw (alike f, past-due-fields fields c ks)
   past-due-fields fields c (BIND f v ∷ ks) = past-due-fields fields c ks
+  past-due-fields fields c (GATHER f v ∷ ks) = past-due-fields fields c ks
 
   leave-fields : (c : Config) (s : Step) → leave c s e ≡ leave c s e′
   unfolding leave
-  leave-fields c s = rw (bind-fields c (s .clauses))
+  leave-fields c s = rw (bind-fields c (s .clauses), gather-fields (c .lists) (s .clauses))
 
   -- a step does the same on both, and is expired by both or by neither
   pub fire-fields : (c : Config) (s : Step) → fire c s e ≡ fire c s e′

@@ -6,8 +6,8 @@ use mathlib.Core.Option.{Option, none, some}
 use lib.ListN.{getD}
 use lib.Dec.{ltb, leb, eqb}
 use Rattle.event_log.specs.Log.{Kind, plain, rising as risingField, Values}
-use Rattle.formula.specs.Formula.{Operator, equal, unequal, less, greater, atmost, atleast, Clause, TEST, TESTV, BIND, Step}
-use Rattle.formula.specs.Formula.{Leaf, CONST, VAR, COUNT, Expr, LEAF, ADD, SUB, LESS, ATMOST, EQUAL, NOT, AND, OR, IF}
+use Rattle.formula.specs.Formula.{Operator, equal, unequal, less, greater, atmost, atleast, Clause, TEST, TESTV, BIND, GATHER, Step}
+use Rattle.formula.specs.Formula.{Leaf, CONST, VAR, COUNT, SUM, LENGTH, DIFFERENT, Expr, LEAF, ADD, SUB, LESS, ATMOST, EQUAL, NOT, AND, OR, IF}
 use Rattle.machine.specs.Configuration.{Config}
 use Rattle.machine.specs.Guard.{guardHolds}
 use Rattle.machine.specs.Firing.{field, valueOf, isHeld, leave}
@@ -27,22 +27,46 @@ firstBind [] v = none
 firstBind (TEST f o x ∷ ks) v = firstBind ks v
 firstBind (TESTV f o u ∷ ks) v = firstBind ks v
 firstBind (BIND f u ∷ ks) v = cond (eqb u v) (some f) (firstBind ks v)
+firstBind (GATHER f u ∷ ks) v = firstBind ks v
 
 abbrev pub fieldRises : List Kind → Option ℕ → Bool
 fieldRises fields none = false
 fieldRises fields (some f) = rises fields f
 
+-- the step gathers into list v
+abbrev pub gathers : List Clause → ℕ → Bool
+gathers [] v = false
+gathers (TEST f o x ∷ ks) v = gathers ks v
+gathers (TESTV f o u ∷ ks) v = gathers ks v
+gathers (BIND f u ∷ ks) v = gathers ks v
+gathers (GATHER f u ∷ ks) v = eqb u v || gathers ks v
+
+-- every field that the step gathers into list v is rising; so too where it gathers none
+abbrev pub gathersRising : List Kind → List Clause → ℕ → Bool
+gathersRising fields [] v = true
+gathersRising fields (TEST f o x ∷ ks) v = gathersRising fields ks v
+gathersRising fields (TESTV f o u ∷ ks) v = gathersRising fields ks v
+gathersRising fields (BIND f u ∷ ks) v = gathersRising fields ks v
+gathersRising fields (GATHER f u ∷ ks) v = cond (eqb u v) (rises fields f) true && gathersRising fields ks v
+
 -- "constants, counters and held variables are both; a variable not held is rising if its first BIND is of a rising field,
--- else neither": in configuration c, at a step with these clauses
+-- else neither"; "a sum is rising where the step gathers a rising field into it, both where it gathers none, neither where it gathers a plain one; a length
+-- is both; the number of different values is both where the step gathers none, otherwise neither": in configuration c, at a step with these clauses
 abbrev pub leafRises : List Kind → Config → List Clause → Leaf → Bool
 leafRises fields c ks (CONST x) = true
 leafRises fields c ks (VAR v) = isHeld c v || fieldRises fields (firstBind ks v)
 leafRises fields c ks (COUNT s) = true
+leafRises fields c ks (SUM v) = gathersRising fields ks v
+leafRises fields c ks (LENGTH v) = true
+leafRises fields c ks (DIFFERENT v) = not (gathers ks v)
 
 abbrev pub leafFalls : List Kind → Config → List Clause → Leaf → Bool
 leafFalls fields c ks (CONST x) = true
 leafFalls fields c ks (VAR v) = isHeld c v
 leafFalls fields c ks (COUNT s) = true
+leafFalls fields c ks (SUM v) = not (gathers ks v)
+leafFalls fields c ks (LENGTH v) = true
+leafFalls fields c ks (DIFFERENT v) = not (gathers ks v)
 
 unfoldable mutual
   pub rising : List Kind → Config → List Clause → Expr → Bool
@@ -89,6 +113,7 @@ abbrev pub pastDue : List Kind → Config → Values → Clause → Bool
 pastDue fields c x (TEST f o y) = rises fields f && missed o (field x f) y
 pastDue fields c x (TESTV f o v) = rises fields f && missed o (field x f) (valueOf c v)
 pastDue fields c x (BIND f v) = false
+pastDue fields c x (GATHER f v) = false
 
 abbrev pub anyPastDue : List Kind → Config → Values → List Clause → Bool
 anyPastDue fields c x [] = false
@@ -101,6 +126,7 @@ guardFalls fields c ks (some g) = falling fields c ks g
 
 -- "A step is hopeless after event n if a TEST or TESTV with less or at most on a rising field is false on n, or its guard is
 -- falling and is 0 with held values and, for variables not held, the field of the step's first BIND of it on n. Counters in
--- that guard include the step's own": the values and counters of the configuration that the step would leave
+-- that guard include the step's own"; "its lists include the values it would gather there": the values, counters and lists of the configuration that the
+-- step would leave
 unfoldable pub expired : List Kind → Config → Step → Values → Bool
 expired fields c s x = anyPastDue fields c x (s .clauses) || (guardFalls fields c (s .clauses) (s .guard) && not (guardHolds (leave c s x) (s .guard)))

@@ -1,22 +1,45 @@
 -- "Expressions": the value of a guard in a configuration.
-use Prim.Native.Nat.{ℕ, _+_, _-_, min}
-use mathlib.Core.Bool.{Bool, true, not, _&&_, _||_, cond}
+use Prim.Native.Nat.{ℕ, suc, _+_, _-_, min}
+use mathlib.Core.Bool.{Bool, true, false, not, _&&_, _||_, cond}
+use mathlib.Core.List.{List, [], _∷_}
 use mathlib.Core.Option.{Option, none, some}
-use lib.ListN.{getD}
+use lib.ListN.{length, getD}
 use lib.Dec.{ltb, leb, eqb}
 use Rattle.base.specs.Mask.{bit}
-use Rattle.formula.specs.Formula.{Leaf, CONST, VAR, COUNT, Expr, LEAF, ADD, SUB, LESS, ATMOST, EQUAL, NOT, AND, OR, IF}
-use Rattle.machine.specs.Configuration.{Config}
+use Rattle.formula.specs.Formula.{Leaf, CONST, VAR, COUNT, SUM, LENGTH, DIFFERENT, Expr, LEAF, ADD, SUB, LESS, ATMOST, EQUAL, NOT, AND, OR, IF}
+use Rattle.machine.specs.Configuration.{Config, listOf}
 
 -- "nonzero is true"
 abbrev pub truth : ℕ → Bool
 truth x = ltb 0 x
 
--- a constant, a variable's value, a state's counter
+-- numbers added up
+abbrev pub total : List ℕ → ℕ
+total [] = 0
+total (x ∷ xs) = x + total xs
+
+-- "2C gives its sum, stopping at 4294967295"
+abbrev pub sum : List ℕ → ℕ
+sum l = min (total l) 4294967295
+
+-- whether x is one of the values
+abbrev pub among : ℕ → List ℕ → Bool
+among x [] = false
+among x (y ∷ ys) = eqb y x || among x ys
+
+-- "2E the number of different values": a value counts where none behind it equals it
+abbrev pub different : List ℕ → ℕ
+different [] = 0
+different (x ∷ xs) = cond (among x xs) (different xs) (suc (different xs))
+
+-- a constant, a variable's value, a state's counter; of a list its sum, its length, its number of different values
 abbrev pub leaf : Config → Leaf → ℕ
 leaf c (CONST x) = x
 leaf c (VAR v) = getD (c .values) v 0
 leaf c (COUNT s) = getD (c .counters) s 0
+leaf c (SUM v) = sum (listOf (c .lists) v)
+leaf c (LENGTH v) = length (listOf (c .lists) v)
+leaf c (DIFFERENT v) = different (listOf (c .lists) v)
 
 -- "ADD stops at 4294967295 and SUB at 0. LESS to OR give 0 or 1"
 unfoldable pub value : Config → Expr → ℕ

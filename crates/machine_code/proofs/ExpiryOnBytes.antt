@@ -1,49 +1,52 @@
 -- Expiry over the formula's bytes: what each function of the code computes, and that on a step's bytes it is the definition's.
-use Prim.Native.Nat.{ℕ, _+_, _<_, _≤_}
+use Prim.Native.Nat.{ℕ, _+_, _*_, _<_, _≤_}
 use mathlib.Core.Path.{_≡_, refl, ap, sym, _∙_}
-use mathlib.Core.Bool.{Bool, true, false, cond, not, _||_}
+use mathlib.Core.Bool.{Bool, true, false, cond, not, _&&_, _||_, and-assoc}
 use mathlib.Core.List.{List, [], _∷_, _++_}
 use mathlib.Core.Option.{Option, none, some}
 use native.Mathlib.Omega.{arith}
 use borrow.Author.Tests.{le-leb, lt-leb, ne-eqb, eqb-true, eqb-false}
-use lib.ListN.{length, getD, drop, set, length-set}
+use lib.ListN.{length, getD, drop, set, length-set, getD-replicate}
 use lib.Seq.{getD-set-same, getD-set-other}
 use lib.Dec.{eqb}
 use Rattle.base.specs.Lists.{All}
+use Rattle.base.proofs.Tests.{and-false}
 use Rattle.event_log.specs.Log.{Kind}
-use Rattle.formula.specs.Formula.{Expr, Clause, TEST, TESTV, BIND, Step}
+use Rattle.formula.specs.Formula.{Expr, Clause, TEST, TESTV, BIND, GATHER, Step}
 use Rattle.formula.specs.Encode.{operatorByte, encodeExpr, guardCommands}
 use Rattle.formula.specs.Correct.{LeafExists, Exists, GuardFits}
 use Rattle.machine_code.specs.declared.Configuration.{Configuration}
 use Rattle.machine_code.specs.declared.Walked.{Walked}
 use Rattle.machine.specs.Firing.{isHeld, leave}
-use Rattle.machine.specs.Expiry.{rises, firstBind, fieldRises, guardFalls, expired}
-use Rattle.guard_code.specs.inner.Bytes.{leafValue, leafMarked, guardAt, fallsAt}
-use Rattle.machine_code.specs.inner.Bytes.{tested, holding, bound, begun, walked, raised, lapsed, configOf}
-use Rattle.machine_code.proofs.WalkOnBytes.{first-byte, drop-more, walkOf}
+use Rattle.machine.specs.Expiry.{rises, firstBind, fieldRises, gathers, gathersRising, guardFalls, expired}
+use Rattle.guard_code.specs.inner.Bytes.{leafMarked, fallsAt}
+use Rattle.machine_code.specs.inner.Bytes.{tested, holding, bound, gaining, begun, walked, raised, guardBehind, configOf, falling, growing}
+use Rattle.machine_code.specs.inner.Bytes.{fallsBehind, lapsed}
+use Rattle.machine_code.proofs.WalkOnBytes.{first-byte, drop-more, clauseOf, walkOf, and-end}
 use Rattle.guard_code.proofs.TrendOnBytes.{judge-encode, marked-rises, marked-falls}
-use Rattle.machine_code.proofs.FiringOnBytes.{StepAt, Ready, guardBytes, inside, walked-encode, walked-along, walked-ends, guard-left}
+use Rattle.machine_code.proofs.FiringOnBytes.{StepAt, Ready, Carries, guardBytes, inside, walked-encode, walked-along, walked-ends, guard-left}
 use Rattle.machine_code.proofs.FiringOnBytes.{parts-exist, guard-exists}
 
-pub lapsed-out : (f : List ℕ) (at : ℕ) (c : Configuration) (rising : List Bool) (event : List ℕ) → length f ≤ at → true ≡ lapsed f at c rising event
+pub lapsed-out : (f : List ℕ) (at : ℕ) (c : Configuration) (fresh rising : List Bool) (event : List ℕ) → length f ≤ at
+    → true ≡ lapsed f at c fresh rising event
 unfolding lapsed
-lapsed-out f at c rising event h = rw (le-leb (length f) at h)
+lapsed-out f at c fresh rising event h = rw (le-leb (length f) at h)
 
 -- the code's three ways out behind the walk
-module _ (f : List ℕ) (at : ℕ) (c : Configuration) (rising : List Bool) (event : List ℕ) (w : Walked) (in-file : at < length f)
-    (e : w ≡ walked f at c rising event) where
-  pub lapsed-due : w .due ≡ true → true ≡ lapsed f at c rising event
+module _ (f : List ℕ) (at : ℕ) (c : Configuration) (fresh rising : List Bool) (event : List ℕ) (w : Walked) (in-file : at < length f)
+    (e : w ≡ walked f at c fresh rising event) where
+  pub lapsed-due : w .due ≡ true → true ≡ lapsed f at c fresh rising event
   unfolding lapsed
   lapsed-due d = rw (lt-leb (length f) at in-file, ← e, d)
 
   pub lapsed-guard : (counters : List ℕ) (b g : Bool) → w .due ≡ false → counters ≡ raised (c .counters) (c .state)
-      → b ≡ fallsAt (leafMarked (c .held)) (leafMarked (w .grows)) f (w .at) → b ≡ true → g ≡ guardAt (leafValue (w .values) counters) f (w .at)
-      → not g ≡ lapsed f at c rising event
+      → b ≡ fallsBehind f (c .held) w → b ≡ true → g ≡ guardBehind f w counters
+      → not g ≡ lapsed f at c fresh rising event
   unfolding lapsed
   lapsed-guard counters b g d n p q r = rw (lt-leb (length f) at in-file, ← e, d, ← n, ← p, q, ← r)
 
-  pub lapsed-not : (b : Bool) → w .due ≡ false → b ≡ fallsAt (leafMarked (c .held)) (leafMarked (w .grows)) f (w .at) → b ≡ false
-      → false ≡ lapsed f at c rising event
+  pub lapsed-not : (b : Bool) → w .due ≡ false → b ≡ fallsBehind f (c .held) w → b ≡ false
+      → false ≡ lapsed f at c fresh rising event
   unfolding lapsed
   lapsed-not b d p q = rw (lt-leb (length f) at in-file, ← e, d, ← p, q)
 
@@ -66,11 +69,11 @@ unfolding bound holding
 bound-marked w next v x r true e m = rw e (record { held-8 = m .held-8; grows-8 = m .grows-8 })
 bound-marked w next v x r false e m = rw e (record { held-8 = length-set (w .held) v true ∙ m .held-8; grows-8 = length-set (w .grows) v r ∙ m .grows-8 })
 
-module _ (f : List ℕ) (fieldKinds : List Kind) (rising : List Bool) (mark : (g : ℕ) → getD rising g false ≡ rises fieldKinds g) (prior event : List ℕ) (v : ℕ)
-    (small : v < 8) where
+module _ (f : List ℕ) (fieldKinds : List Kind) (fresh rising : List Bool) (mark : (g : ℕ) → getD rising g false ≡ rises fieldKinds g)
+    (prior event : List ℕ) (v : ℕ) (small : v < 8) where
   abbrev Grown : List Clause → Walked → Type 0
   Grown ks w =
-      getD ((walkOf f prior rising event w ks) .grows) v false ≡ cond (getD (w .held) v false) (getD (w .grows) v false)
+      getD ((walkOf f prior fresh rising event w ks) .grows) v false ≡ cond (getD (w .held) v false) (getD (w .grows) v false)
       (later fieldKinds (getD (w .grows) v false) (firstBind ks v))
 
   cond-same : (b g : Bool) → g ≡ cond b g g
@@ -78,7 +81,7 @@ module _ (f : List ℕ) (fieldKinds : List Kind) (rising : List Bool) (mark : (g
   cond-same false g = refl
 
   tested-grown : (ks : List Clause) (w : Walked) (next o x y : ℕ) (r : Bool) → Grown ks (tested w next o x y r)
-      → getD ((walkOf f prior rising event (tested w next o x y r) ks) .grows) v false
+      → getD ((walkOf f prior fresh rising event (tested w next o x y r) ks) .grows) v false
       ≡ cond (getD (w .held) v false) (getD (w .grows) v false) (later fieldKinds (getD (w .grows) v false) (firstBind ks v))
   unfolding tested
   tested-grown ks w next o x y r e = e
@@ -108,6 +111,12 @@ module _ (f : List ℕ) (fieldKinds : List Kind) (rising : List Bool) (mark : (g
       let d : getD (set (w .grows) u (getD rising g false)) v false ≡ getD (w .grows) v false = getD-set-other (w .grows) u v (getD rising g false) false ne in
       rw (e, q, a, d)
 
+  gained-grown : (ks : List Clause) (w : Walked) (next u x : ℕ) (r n : Bool) → Marked w → (Marked (gaining w next u x r n) → Grown ks (gaining w next u x r n))
+      → getD ((walkOf f prior fresh rising event (gaining w next u x r n) ks) .grows) v false
+      ≡ cond (getD (w .held) v false) (getD (w .grows) v false) (later fieldKinds (getD (w .grows) v false) (firstBind ks v))
+  unfolding gaining
+  gained-grown ks w next u x r n m g = g (record { held-8 = m .held-8; grows-8 = m .grows-8 })
+
   grown : (ks : List Clause) (w : Walked) → Marked w → Grown ks w
   grown [] w m = cond-same (getD (w .held) v false) (getD (w .grows) v false)
   grown (TEST g o y ∷ ks) w m =
@@ -118,6 +127,58 @@ module _ (f : List ℕ) (fieldKinds : List Kind) (rising : List Bool) (mark : (g
   grown (BIND g u ∷ ks) w m =
       grown ks (bound w (w .at + 3) u (getD event g 0) (getD rising g false)) (bound-marked w _ _ _ _ (getD (w .held) u false) refl m)
       ∙ bound-marks ks w (w .at + 3) g u (getD event g 0) m (getD (w .held) u false) refl (eqb u v) refl
+  grown (GATHER g u ∷ ks) w m =
+      let n = getD fresh (u * 8 + g) false in
+      gained-grown ks w (w .at + 3) u (getD event g 0) (getD rising g false) n m
+      (grown ks (gaining w (w .at + 3) u (getD event g 0) (getD rising g false) n))
+
+-- a mark behind a place that is set
+set-at : (l : List Bool) (u v : ℕ) (b : Bool) → v < length l → (t : Bool) → eqb u v ≡ t → getD (set l u b) v false ≡ cond t b (getD l v false)
+set-at l u v b h true q = let p : u ≡ v = eqb-true u v q in rw p (getD-set-same l v b false h)
+set-at l u v b h false q = getD-set-other l u v b false (λ r. eqb-false u v q (sym r))
+
+-- the lists into which every field gathered is rising, and those into which none is gathered
+module _ (f prior : List ℕ) (fieldKinds : List Kind) (fresh rising : List Bool) (mark : (g : ℕ) → getD rising g false ≡ rises fieldKinds g) (event : List ℕ)
+    (v : ℕ) (small : v < 4) where
+  record Judged (ks : List Clause) (w r : Walked) : Type 0 where
+    all-rise : getD (r .rising) v false ≡ (getD (w .rising) v false && gathersRising fieldKinds ks v)
+    none-in : getD (r .unchanged) v false ≡ (getD (w .unchanged) v false && not (gathers ks v))
+
+  -- what a GATHER into list u does to v's marks
+  rise-more : (l : List Bool) (u : ℕ) (r q : Bool) → length l ≡ 4
+      → (getD (set l u (getD l u false && r)) v false && q) ≡ (getD l v false && (cond (eqb u v) r true && q))
+  rise-more l u r q h = rw (set-at l u v (getD l u false && r) (omega arith) (eqb u v) refl) (go (eqb u v) refl)
+    where
+      go : (t : Bool) → eqb u v ≡ t → (cond t (getD l u false && r) (getD l v false) && q) ≡ (getD l v false && (cond t r true && q))
+      go true e = let p : u ≡ v = eqb-true u v e in rw p (and-assoc (getD l v false) r q)
+      go false e = refl
+
+  none-more : (l : List Bool) (u : ℕ) (q : Bool) → length l ≡ 4
+      → (getD (set l u false) v false && not q) ≡ (getD l v false && not (eqb u v || q))
+  none-more l u q h = rw (set-at l u v false (omega arith) (eqb u v) refl) (go (eqb u v))
+    where
+      go : (t : Bool) → (cond t false (getD l v false) && not q) ≡ (getD l v false && not (t || q))
+      go true = sym (and-false (getD l v false) false refl)
+      go false = refl
+
+  judged : (ks : List Clause) (w : Walked) → length (w .rising) ≡ 4 → length (w .unchanged) ≡ 4 → Judged ks w (walkOf f prior fresh rising event w ks)
+  unfolding tested bound gaining
+  judged [] w a b = record { all-rise = and-end (getD (w .rising) v false); none-in = and-end (getD (w .unchanged) v false) }
+  judged (TEST g o y ∷ ks) w a b =
+      let i = judged ks (clauseOf f prior fresh rising event w (TEST g o y)) a b in record { all-rise = i .all-rise; none-in = i .none-in }
+  judged (TESTV g o u ∷ ks) w a b =
+      let i = judged ks (clauseOf f prior fresh rising event w (TESTV g o u)) a b in record { all-rise = i .all-rise; none-in = i .none-in }
+  judged (BIND g u ∷ ks) w a b =
+      let i = judged ks (clauseOf f prior fresh rising event w (BIND g u)) a b in record { all-rise = i .all-rise; none-in = i .none-in }
+  judged (GATHER g u ∷ ks) w a b =
+      let i = judged ks (clauseOf f prior fresh rising event w (GATHER g u)) (length-set (w .rising) u _ ∙ a) (length-set (w .unchanged) u false ∙ b) in
+      record {
+        all-rise =
+            i .all-rise
+            ∙ rise-more (w .rising) u (getD rising g false) (gathersRising fieldKinds ks v) a
+            ∙ ap (λ (r : Bool). getD (w .rising) v false && (cond (eqb u v) r true && gathersRising fieldKinds ks v)) (mark g);
+        none-in = i .none-in ∙ none-more (w .unchanged) u (gathers ks v) b;
+      }
 
 held-first : (fieldKinds : List Kind) (b : Bool) (o : Option ℕ) → cond b b (later fieldKinds b o) ≡ (b || fieldRises fieldKinds o)
 held-first fieldKinds true o = refl
@@ -125,19 +186,34 @@ held-first fieldKinds false none = refl
 held-first fieldKinds false (some f) = refl
 
 module _ (fields states : ℕ) (f : List ℕ) (at : ℕ) (s : Step) (h : StepAt fields states f at s) (fieldKinds : List Kind) (rising : List Bool)
-    (mark : (g : ℕ) → getD rising g false ≡ rises fieldKinds g) (c : Configuration) (r : Ready c) (event : List ℕ) where
+    (mark : (g : ℕ) → getD rising g false ≡ rises fieldKinds g) (ls : List (List ℕ)) (c : Configuration) (r : Ready c) (fresh : List Bool) (event : List ℕ)
+    (k : Carries fields ls c event fresh) where
   -- the variables that the walk marks as growing are those that the definition calls rising
   walk-grows : (v : ℕ) → v < 8
-      → getD ((walked f at c rising event) .grows) v false ≡ (isHeld (configOf c) v || fieldRises fieldKinds (firstBind (s .clauses) v))
+      → getD ((walked f at c fresh rising event) .grows) v false ≡ (isHeld (configOf ls c) v || fieldRises fieldKinds (firstBind (s .clauses) v))
   unfolding begun
   walk-grows v small =
-      ap (λ (w : Walked). getD (w .grows) v false) (walked-encode fields states f at s h c rising event)
-      ∙ grown f fieldKinds rising mark (c .values) event v small (s .clauses) (begun at c) (record { held-8 = r .held-8; grows-8 = r .held-8 })
+      ap (λ (w : Walked). getD (w .grows) v false) (walked-encode fields states f at s h c fresh rising event)
+      ∙ grown f fieldKinds fresh rising mark (c .values) event v small (s .clauses) (begun at c) (record { held-8 = r .held-8; grows-8 = r .held-8 })
       ∙ held-first fieldKinds (getD (c .held) v false) (firstBind (s .clauses) v)
+
+  -- and so for the lists
+  walk-judged : (v : ℕ) → v < 4
+      → (getD ((walked f at c fresh rising event) .rising) v false ≡ gathersRising fieldKinds (s .clauses) v)
+      × (getD ((walked f at c fresh rising event) .unchanged) v false ≡ not (gathers (s .clauses) v))
+  unfolding begun
+  walk-judged v small =
+      let j = judged f (c .values) fieldKinds fresh rising mark event v small (s .clauses) (begun at c) refl refl in
+      let t = getD-replicate 4 v true false small in
+      rw (walked-encode fields states f at s h c fresh rising event) (
+        j .all-rise ∙ ap (λ b. b && gathersRising fieldKinds (s .clauses) v) t,
+        j .none-in ∙ ap (λ b. b && not (gathers (s .clauses) v)) t,
+      )
 
   -- the guard behind the walk is falling exactly where the step's guard is
   falls-encode : (g : Option Expr) (p : ℕ) → drop p f ≡ guardBytes g ++ h .after → All (Exists fields states) (guardCommands g) → GuardFits g
-      → fallsAt (leafMarked (c .held)) (leafMarked ((walked f at c rising event) .grows)) f p ≡ guardFalls fieldKinds (configOf c) (s .clauses) g
+      → let w = walked f at c fresh rising event in
+      fallsAt (leafMarked (falling (c .held) w)) (leafMarked (growing w)) f p ≡ guardFalls fieldKinds (configOf ls c) (s .clauses) g
   unfolding fallsAt guardCommands
   falls-encode none p e x y =
       let b : getD f p 0 ≡ getD (h .after) 0 0 = first-byte f (h .after) p e in
@@ -145,19 +221,23 @@ module _ (fields states : ℕ) (f : List ℕ) (at : ℕ) (s : Step) (h : StepAt 
   falls-encode (some g) p e x y =
       let b : getD f p 0 ≡ 0x15 = first-byte f _ p e in
       let d : drop (p + 1) f ≡ encodeExpr g ++ h .after = drop-more f (0x15 ∷ []) (encodeExpr g ++ h .after) p e in
-      let grows = (walked f at c rising event) .grows in
-      let up = marked-rises fieldKinds (configOf c) (s .clauses) states grows walk-grows in
-      let down = marked-falls fieldKinds (configOf c) (s .clauses) states in
-      let j = judge-encode fieldKinds (configOf c) (s .clauses) (LeafExists states) (leafMarked grows) (leafMarked (c .held)) up down g 8 (x .0) (y .1) in
+      let w = walked f at c fresh rising event in
+      let ks = s .clauses in
+      let same : (v : ℕ) → v < 4 → getD (w .unchanged) v false ≡ not (gathers ks v) = λ v i. walk-judged v i .1 in
+      let up = marked-rises fieldKinds (configOf ls c) ks states (growing w) same walk-grows (λ v i. walk-judged v i .0) in
+      let down = marked-falls fieldKinds (configOf ls c) ks states (falling (c .held) w) same refl same in
+      let j =
+      judge-encode fieldKinds (configOf ls c) ks (LeafExists states) (leafMarked (growing w)) (leafMarked (falling (c .held) w)) up down g 8 (x .0)
+      (y .1) in
       rw (b, d, j .is-falling (h .after))
 
   -- A step's bytes are expired exactly where the step is.
-  pub expired-encode : lapsed f at c rising event ≡ expired fieldKinds (configOf c) s event
+  pub expired-encode : lapsed f at c fresh rising event ≡ expired fieldKinds (configOf ls c) s event
   unfolding lapsed expired leave begun
   expired-encode =
-      let a = walked-along fields states f at s h fieldKinds rising mark c event in
-      let g = guard-left fields states f at s h c rising event r (a .agrees) in
+      let a = walked-along fields states f at s h fieldKinds rising mark ls c fresh event in
+      let g = guard-left fields states f at s h ls c fresh rising event r k (a .agrees) in
       let x = guard-exists fields states (s .clauses) (s .guard) (parts-exist fields states f at s h) in
-      let p = falls-encode (s .guard) ((walked f at c rising event) .at) (walked-ends fields states f at s h c rising event) x (h .fits .guard) in
+      let p = falls-encode (s .guard) ((walked f at c fresh rising event) .at) (walked-ends fields states f at s h c fresh rising event) x (h .fits .guard) in
       let i = lt-leb (length f) at (inside fields states f at s h) in
       rw (i, a .overdue, p, g)

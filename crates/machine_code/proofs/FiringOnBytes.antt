@@ -5,7 +5,7 @@ use mathlib.Core.Bool.{Bool, true, false, cond}
 use mathlib.Core.List.{List, [], _∷_, _++_, append-assoc, append-nil, flatMap, map}
 use mathlib.Core.Option.{Option, none, some}
 use native.Mathlib.Omega.{arith}
-use borrow.Author.Tests.{lt-ltb, le-leb, lt-leb, ne-eqb}
+use borrow.Author.Tests.{le-leb, lt-leb, ne-eqb}
 use lib.ListN.{length, getD, drop, set, replicate, length-drop, length-append}
 use lib.Seq.{set-out}
 use Rattle.base.proofs.Lists.{replicate-at}
@@ -18,18 +18,22 @@ use Rattle.machine_code.specs.declared.Walked.{Walked}
 use Rattle.formula.specs.Lookup.{stepPlace}
 use Rattle.formula.specs.inner.StepBytes.{guardPlace}
 use Rattle.formula.specs.Correct.{Exists, GuardFits, StepFits}
-use Rattle.machine.specs.Configuration.{Config, addOne}
-use Rattle.machine.specs.inner.Valid.{total, Valid}
-use Rattle.machine.specs.Guard.{guardHolds}
-use Rattle.machine.specs.Firing.{bindAll, leave, fires, fire}
+use Rattle.machine.specs.Configuration.{Config, addOne, listOf}
+use Rattle.machine.specs.Guard.{total, guardHolds}
+use Rattle.machine.specs.Firing.{bindAll, gatherAll, leave, fires, fire}
+use Rattle.machine.specs.inner.Valid.{Valid}
+use Rattle.machine.specs.inner.Along.{tallies, IsFresh}
 use Rattle.machine.specs.Expiry.{rises}
 use Rattle.guard_code.specs.inner.Bytes.{leafValue, guardAt}
-use Rattle.machine_code.specs.inner.Bytes.{walked, raised, leaving, fired, begun, isClause, configOf}
+use Rattle.machine_code.specs.inner.Bytes.{walked, raised, leaving, guardBehind, fired, begun, isClause, configOf}
 use Rattle.machine.proofs.Configurations.{counter-le-total, add-one-set}
 use Rattle.machine.proofs.Walk.{fires-walk}
+use Rattle.machine.proofs.Gathering.{length-gather-all}
+use Rattle.machine.proofs.Carried.{carried}
 use Rattle.guard_code.proofs.GuardOnBytes.{byte-inside, evaluate-encode}
-use Rattle.machine_code.proofs.WalkOnBytes.{byte-from, first-byte, drop-more, walkOf, walk-encode, walk-at, walk-ends, clauses-length, Agrees}
-use Rattle.machine_code.proofs.WalkOnBytes.{Along, along}
+use Rattle.machine_code.proofs.ClausesOnBytes.{clause-low}
+use Rattle.machine_code.proofs.WalkOnBytes.{byte-from, first-byte, drop-more, walkOf, walk-encode, walk-at, walk-ends, walk-tallies, clauses-length}
+use Rattle.machine_code.proofs.WalkOnBytes.{Agrees, Along, along}
 
 pub raised-out : (counters : List ℕ) (s : ℕ) → length counters ≡ 16 → 16 ≤ s → counters ≡ raised counters s
 unfolding raised
@@ -39,19 +43,20 @@ pub raised-in : (counters : List ℕ) (s n : ℕ) → n ≡ min (getD counters s
 unfolding raised
 raised-in counters s n e = rw e
 
-pub fired-out : (f : List ℕ) (at : ℕ) (c : Configuration) (event : List ℕ) → length f ≤ at → record { fires = false; config = c } ≡ fired f at c event
+pub fired-out : (f : List ℕ) (at : ℕ) (c : Configuration) (fresh : List Bool) (event : List ℕ) → length f ≤ at
+    → record { fires = false; config = c } ≡ fired f at c fresh event
 unfolding fired
-fired-out f at c event h = rw (le-leb (length f) at h)
+fired-out f at c fresh event h = rw (le-leb (length f) at h)
 
 -- inside the file: the guard decides where every test passes
-module _ (f : List ℕ) (at : ℕ) (c : Configuration) (event : List ℕ) (w : Walked) (counters : List ℕ) (t : ℕ) (in-file : at < length f)
-    (walk : w ≡ walked f at c (replicate 8 false) event) (raise : counters ≡ raised (c .counters) (c .state)) (target : t ≡ getD f (at + 1) 0) where
-  pub fired-guard : (b : Bool) → w .passes ≡ true → b ≡ guardAt (leafValue (w .values) counters) f (w .at)
-      → record { fires = b; config = leaving t w counters } ≡ fired f at c event
+module _ (f : List ℕ) (at : ℕ) (c : Configuration) (fresh : List Bool) (event : List ℕ) (w : Walked) (counters : List ℕ) (t : ℕ) (in-file : at < length f)
+    (walk : w ≡ walked f at c fresh (replicate 8 false) event) (raise : counters ≡ raised (c .counters) (c .state)) (target : t ≡ getD f (at + 1) 0) where
+  pub fired-guard : (b : Bool) → w .passes ≡ true → b ≡ guardBehind f w counters
+      → record { fires = b; config = leaving t w counters } ≡ fired f at c fresh event
   unfolding fired
   fired-guard b h e = rw (lt-leb (length f) at in-file, ← walk, ← raise, ← target, h, e)
 
-  pub fired-failed : w .passes ≡ false → record { fires = false; config = leaving t w counters } ≡ fired f at c event
+  pub fired-failed : w .passes ≡ false → record { fires = false; config = leaving t w counters } ≡ fired f at c fresh event
   unfolding fired
   fired-failed h = rw (lt-leb (length f) at in-file, ← walk, ← raise, ← target, h)
 
@@ -86,8 +91,8 @@ pub record Ready (c : Configuration) : Type 0 where
   pub below : getD (c .counters) (c .state) 0 < 4294967295
 
 -- a valid configuration with few steps taken is ready
-pub ready : (states : ℕ) (c : Configuration) → Valid states (configOf c) → states ≤ 16 → total (c .counters) < 4294967295 → Ready c
-ready states c v h k = record {
+pub ready : (states : ℕ) (ls : List (List ℕ)) (c : Configuration) → Valid states (configOf ls c) → states ≤ 16 → total (c .counters) < 4294967295 → Ready c
+ready states ls c v h k = record {
   held-8 = v .held-8;
   values-8 = v .values-8;
   counters-16 = v .counters-16;
@@ -95,13 +100,21 @@ ready states c v h k = record {
   below = omega (arith, counter-le-total (c .counters) (c .state));
 }
 
+-- The lists of the configuration, what it holds of them, and what is known of the values that a step would gather.
+pub record Carries (fields : ℕ) (ls : List (List ℕ)) (c : Configuration) (event : List ℕ) (fresh : List Bool) : Type 0 where
+  pub few : fields ≤ 8
+  pub four : length ls ≡ 4
+  pub short : (v : ℕ) → v < 4 → length (listOf ls v) < 4294967295
+  pub tallied : c .tallies ≡ tallies ls
+  pub new : IsFresh ls event fresh
+
 pub raised-one : (c : Configuration) → Ready c → raised (c .counters) (c .state) ≡ addOne (c .counters) (c .state)
 unfolding raised
 raised-one c r =
     let e : min (getD (c .counters) (c .state) 0 + 1) 4294967295 ≡ getD (c .counters) (c .state) 0 + 1 = omega (arith, r .below) in
     rw (e, add-one-set (c .counters) (c .state) (omega (arith, r .counters-16, r .declared)))
 
-clauses-exist : (m n : ℕ) (ks : List Clause) (g : Option Expr) → All (Exists m n) (map CLAUSE ks ++ guardCommands g)
+pub clauses-exist : (m n : ℕ) (ks : List Clause) (g : Option Expr) → All (Exists m n) (map CLAUSE ks ++ guardCommands g)
     → All (λ (k : Clause). Exists m n (CLAUSE k)) ks
 clauses-exist m n [] g h = tt
 clauses-exist m n (k ∷ ks) g h = (h .0, clauses-exist m n ks g (h .1))
@@ -130,7 +143,7 @@ module _ (fields states : ℕ) (f : List ℕ) (at : ℕ) (s : Step) (h : StepAt 
   -- no clause's command stands behind the clauses
   clauses-end : (g : Option Expr) → isClause (getD (guardBytes g ++ h .after) 0 0) ≡ false
   unfolding isClause
-  clauses-end none = rw (lt-ltb (getD (h .after) 0 0) 0x12 (h .ends))
+  clauses-end none = sym (clause-low (getD (h .after) 0 0) (h .ends))
   clauses-end (some g) = refl
 
   clauses-fit : length (s .clauses) ≤ suc (length f)
@@ -143,77 +156,96 @@ module _ (fields states : ℕ) (f : List ℕ) (at : ℕ) (s : Step) (h : StepAt 
   parts-exist = h .exist .1
 
   -- the walk over the step's bytes is the walk over its clauses
-  pub walked-encode : (c : Configuration) (rising : List Bool) (event : List ℕ)
-      → walked f at c rising event ≡ walkOf f (c .values) rising event (begun at c) (s .clauses)
+  pub walked-encode : (c : Configuration) (fresh rising : List Bool) (event : List ℕ)
+      → walked f at c fresh rising event ≡ walkOf f (c .values) fresh rising event (begun at c) (s .clauses)
   unfolding walked begun
-  walked-encode c rising event =
-      walk-encode f (c .values) rising event fields states (suc (length f)) (begun at c) (s .clauses) (guardBytes (s .guard) ++ h .after) behind-step
+  walked-encode c fresh rising event =
+      walk-encode f (c .values) fresh rising event fields states (suc (length f)) (begun at c) (s .clauses) (guardBytes (s .guard) ++ h .after) behind-step
       (clauses-end (s .guard)) (clauses-exist fields states (s .clauses) (s .guard) parts-exist) clauses-fit
 
   -- and it ends where the guard begins
-  pub walked-ends : (c : Configuration) (rising : List Bool) (event : List ℕ) → drop ((walked f at c rising event) .at) f ≡ guardBytes (s .guard) ++ h .after
+  pub walked-ends : (c : Configuration) (fresh rising : List Bool) (event : List ℕ)
+      → drop ((walked f at c fresh rising event) .at) f ≡ guardBytes (s .guard) ++ h .after
   unfolding begun
-  walked-ends c rising event =
-      ap (λ (w : Walked). drop (w .at) f) (walked-encode c rising event)
-      ∙ walk-ends f (c .values) rising event (begun at c) (s .clauses) (guardBytes (s .guard) ++ h .after) behind-step
+  walked-ends c fresh rising event =
+      ap (λ (w : Walked). drop (w .at) f) (walked-encode c fresh rising event)
+      ∙ walk-ends f (c .values) fresh rising event (begun at c) (s .clauses) (guardBytes (s .guard) ++ h .after) behind-step
 
   -- The walk finds the guard of step k of state i: it ends at the guard's place.
-  pub walked-place : (formula : Formula) (i k : ℕ) → at ≡ stepPlace formula i k → (c : Configuration) (rising : List Bool) (event : List ℕ)
-      → (walked f at c rising event) .at ≡ guardPlace formula i k s
+  pub walked-place : (formula : Formula) (i k : ℕ) → at ≡ stepPlace formula i k → (c : Configuration) (fresh rising : List Bool) (event : List ℕ)
+      → (walked f at c fresh rising event) .at ≡ guardPlace formula i k s
   unfolding begun guardPlace
-  walked-place formula i k e c rising event =
-      omega (arith, e, ap (λ (w : Walked). w .at) (walked-encode c rising event), walk-at f (c .values) rising event (begun at c) (s .clauses))
+  walked-place formula i k e c fresh rising event =
+      omega (arith, e, ap (λ (w : Walked). w .at) (walked-encode c fresh rising event), walk-at f (c .values) fresh rising event (begun at c) (s .clauses))
 
   -- the guard that begins at an offset has the value of the step's guard, in any configuration
-  pub guard-encode : (g : Option Expr) (p : ℕ) (d : Config) → drop p f ≡ guardBytes g ++ h .after → All (Exists fields states) (guardCommands g) → GuardFits g
-      → guardAt (leafValue (d .values) (d .counters)) f p ≡ guardHolds d g
+  pub guard-encode : (g : Option Expr) (p : ℕ) (d : Config) → drop p f ≡ guardBytes g ++ h .after → length (d .lists) ≡ 4
+      → All (Exists fields states) (guardCommands g) → GuardFits g
+      → guardAt (leafValue (d .values) (d .counters) (tallies (d .lists))) f p ≡ guardHolds d g
   unfolding guardAt guardCommands
-  guard-encode none p d e x y =
+  guard-encode none p d e n x y =
       let b : getD f p 0 ≡ getD (h .after) 0 0 = first-byte f (h .after) p e in
       rw (b, ne-eqb (getD (h .after) 0 0) 0x15 (λ q. omega (arith, h .ends)))
-  guard-encode (some g) p c e x y =
+  guard-encode (some g) p c e n x y =
       let b : getD f p 0 ≡ 0x15 = first-byte f _ p e in
       let d : drop (p + 1) f ≡ encodeExpr g ++ h .after = drop-more f (0x15 ∷ []) (encodeExpr g ++ h .after) p e in
-      let v = evaluate-encode states c g 8 (x .0) (y .1) (h .after) in
+      let v = evaluate-encode states c n g 8 (x .0) (y .1) (h .after) in
       rw (b, d, v)
 
   -- the walk over the step's bytes binds, passes and is due as the definition says
-  pub walked-along : (fieldKinds : List Kind) (rising : List Bool) → ((g : ℕ) → getD rising g false ≡ rises fieldKinds g) → (c : Configuration) (event : List ℕ)
-      → Along fieldKinds (configOf c) (configOf c) event (s .clauses) (begun at c) (walked f at c rising event)
+  pub walked-along : (fieldKinds : List Kind) (rising : List Bool) → ((g : ℕ) → getD rising g false ≡ rises fieldKinds g)
+      → (ls : List (List ℕ)) (c : Configuration) (fresh : List Bool) (event : List ℕ)
+      → Along fieldKinds (configOf ls c) (configOf ls c) event (s .clauses) (begun at c) (walked f at c fresh rising event)
   unfolding begun
-  walked-along fieldKinds rising kept c event =
-      rw (walked-encode c rising event)
-      (along f fieldKinds rising kept (configOf c) event (s .clauses) (configOf c) (begun at c) (record { held = refl; values = refl }))
+  walked-along fieldKinds rising kept ls c fresh event =
+      rw (walked-encode c fresh rising event)
+      (along f fieldKinds fresh rising kept (configOf ls c) event (s .clauses) (configOf ls c) (begun at c) (record { held = refl; values = refl }))
 
-  -- the guard behind the walk, with what it has bound and the counters raised, is the step's guard in the configuration that it leaves
-  pub guard-left : (c : Configuration) (rising : List Bool) (event : List ℕ) → Ready c
-      → Agrees (walked f at c rising event) (bindAll (configOf c) event (s .clauses))
-      → guardAt (leafValue ((walked f at c rising event) .values) (raised (c .counters) (c .state))) f ((walked f at c rising event) .at)
-      ≡ guardHolds (leave (configOf c) s event) (s .guard)
+  -- and leaves the tallies of the lists with what the clauses gather
+  pub walked-tallies : (ls : List (List ℕ)) (c : Configuration) (fresh rising : List Bool) (event : List ℕ) → Carries fields ls c event fresh
+      → (walked f at c fresh rising event) .tallies ≡ tallies (gatherAll ls event (s .clauses))
+  unfolding begun
+  walked-tallies ls c fresh rising event k =
+      let x = clauses-exist fields states (s .clauses) (s .guard) parts-exist in
+      rw (walked-encode c fresh rising event, walk-tallies f (c .values) fresh rising event (s .clauses) (begun at c), k .tallied)
+      (carried fields states event ls fresh (k .few) (k .new) (k .short) (s .clauses) (k .four) (h .fits .once) x)
+
+  -- the guard behind the walk, with what it has bound and gathered and the counters raised, is the step's guard in the configuration that it leaves
+  pub guard-left : (ls : List (List ℕ)) (c : Configuration) (fresh rising : List Bool) (event : List ℕ) → Ready c → Carries fields ls c event fresh
+      → Agrees (walked f at c fresh rising event) (bindAll (configOf ls c) event (s .clauses))
+      → guardBehind f (walked f at c fresh rising event) (raised (c .counters) (c .state)) ≡ guardHolds (leave (configOf ls c) s event) (s .guard)
   unfolding leave
-  guard-left c rising event r a =
+  guard-left ls c fresh rising event r k a =
       let x = guard-exists fields states (s .clauses) (s .guard) parts-exist in
-      let g = guard-encode (s .guard) ((walked f at c rising event) .at) (leave (configOf c) s event) (walked-ends c rising event) x (h .fits .guard) in
-      rw (a .values, raised-one c r) g
+      let n : length (gatherAll ls event (s .clauses)) ≡ 4 = length-gather-all ls event (s .clauses) ∙ k .four in
+      let w = walked f at c fresh rising event in
+      let g = guard-encode (s .guard) (w .at) (leave (configOf ls c) s event) (walked-ends c fresh rising event) n x (h .fits .guard) in
+      rw (a .values, raised-one c r, walked-tallies ls c fresh rising event k) g
 
--- A step's bytes fire exactly where the step does, and leave the configuration that it leaves.
-pub record FiresAs (f : List ℕ) (at : ℕ) (c : Configuration) (s : Step) (event : List ℕ) : Type 0 where
-  pub fires-as : (fired f at c event) .fires ≡ fires (configOf c) s event
-  pub leaves-as : configOf ((fired f at c event) .config) ≡ leave (configOf c) s event
+-- A step's bytes fire exactly where the step does, and leave the configuration that it leaves, with the tallies of its lists.
+pub record FiresAs (f : List ℕ) (at : ℕ) (ls : List (List ℕ)) (c : Configuration) (s : Step) (fresh : List Bool) (event : List ℕ) : Type 0 where
+  pub fires-as : (fired f at c fresh event) .fires ≡ fires (configOf ls c) s event
+  pub leaves-as : configOf (gatherAll ls event (s .clauses)) ((fired f at c fresh event) .config) ≡ leave (configOf ls c) s event
+  pub tallied : (fired f at c fresh event) .config .tallies ≡ tallies (gatherAll ls event (s .clauses))
 
-pub fire-encode : (fields states : ℕ) (f : List ℕ) (at : ℕ) (c : Configuration) (s : Step) (event : List ℕ) → StepAt fields states f at s → Ready c
-    → FiresAs f at c s event
-unfolding fired leave begun
-fire-encode fields states f at c s event h r =
-    let a = walked-along fields states f at s h [] (replicate 8 false) (λ g. replicate-at 8 g false) c event in
-    let g = guard-left fields states f at s h c (replicate 8 false) event r (a .agrees) in
-    let i = lt-leb (length f) at (inside fields states f at s h) in
-    let t = target-byte fields states f at s h in
-    let p = fires-walk (configOf c) s event (record { held-8 = r .held-8; values-8 = r .values-8 }) in
-    record { fires-as = rw (i, g, a .passing, p); leaves-as = rw (i, t, a .agrees .held, a .agrees .values, raised-one c r) }
+module _ (fields states : ℕ) (f : List ℕ) (at : ℕ) (ls : List (List ℕ)) (c : Configuration) (s : Step) (fresh : List Bool) (event : List ℕ)
+    (h : StepAt fields states f at s) (r : Ready c) (k : Carries fields ls c event fresh) where
+  pub fire-encode : FiresAs f at ls c s fresh event
+  unfolding fired leave begun
+  fire-encode =
+      let a = walked-along fields states f at s h [] (replicate 8 false) (λ g. replicate-at 8 g false) ls c fresh event in
+      let g = guard-left fields states f at s h ls c fresh (replicate 8 false) event r k (a .agrees) in
+      let i = lt-leb (length f) at (inside fields states f at s h) in
+      let t = target-byte fields states f at s h in
+      let p = fires-walk (configOf ls c) s event (record { held-8 = r .held-8; values-8 = r .values-8 }) in
+      record {
+        fires-as = rw (i, g, a .passing, p);
+        leaves-as = rw (i, t, a .agrees .held, a .agrees .values, raised-one c r);
+        tallied = rw i (walked-tallies fields states f at s h ls c fresh (replicate 8 false) event k);
+      }
 
--- The same as an answer: what the step leaves, if it fires.
-pub fire-answer : (fields states : ℕ) (f : List ℕ) (at : ℕ) (c : Configuration) (s : Step) (event : List ℕ) → StepAt fields states f at s → Ready c
-    → fire (configOf c) s event ≡ cond ((fired f at c event) .fires) (some (configOf ((fired f at c event) .config))) none
-unfolding fire
-fire-answer fields states f at c s event h r = let e = fire-encode fields states f at c s event h r in rw (e .fires-as, e .leaves-as)
+  -- The same as an answer: what the step leaves, if it fires.
+  pub fire-answer : fire (configOf ls c) s event
+      ≡ cond ((fired f at c fresh event) .fires) (some (configOf (gatherAll ls event (s .clauses)) ((fired f at c fresh event) .config))) none
+  unfolding fire
+  fire-answer = rw (fire-encode .fires-as, fire-encode .leaves-as)

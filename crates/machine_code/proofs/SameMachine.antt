@@ -15,12 +15,12 @@ use Rattle.formula.specs.Lookup.{stepAt}
 use Rattle.runs.specs.inner.Search.{anyAlive}
 use Rattle.machine_code.specs.declared.Configuration.{Configuration}
 use Rattle.machine.specs.Configuration.{Config}
-use Rattle.machine.specs.Firing.{field, fires}
+use Rattle.machine.specs.Firing.{field, gatherAll}
 use Rattle.machine.specs.Expiry.{rises}
 use Rattle.machine.specs.Machine.{fireBy, fireAt, expiredBy, expiredAt, machine}
 use Rattle.machine_code.specs.inner.Bytes.{fired, lapsed, configOf, offsetOf, isStep, firesAt, expiresAt, lowestFrom, lowestOf, aliveBelow}
 use Rattle.machine.proofs.Walk.{fire-fields, expired-fields}
-use Rattle.machine_code.proofs.FiringOnBytes.{StepAt, Ready, inside, fire-answer}
+use Rattle.machine_code.proofs.FiringOnBytes.{StepAt, Ready, Carries, inside, fire-answer}
 use Rattle.machine_code.proofs.ExpiryOnBytes.{expired-encode}
 
 -- an offset of the table is right: 0 where there is no such step, else that of the step's bytes
@@ -45,62 +45,63 @@ pub step-there : (fields states : ℕ) (f : List ℕ) (at : ℕ) (s : Step) → 
 unfolding isStep
 step-there fields states f at s h k = rw (ne-eqb at 0 (λ e. omega arith), lt-ltb at (length f) (inside fields states f at s k))
 
-module _ (fields states : ℕ) (f : List ℕ) (c : Configuration) (r : Ready c) where
+module _ (fields states : ℕ) (f : List ℕ) (ls : List (List ℕ)) (c : Configuration) (r : Ready c) (fresh : List Bool) where
   -- what is at an offset fires as the step does
-  fires-by : (o : Option Step) (at : ℕ) (event : List ℕ) → StepThere fields states f at o
-      → (isStep f at && (fired f at c event) .fires) ≡ isFired (fireBy o (configOf c) event)
+  fires-by : (o : Option Step) (at : ℕ) (event : List ℕ) → Carries fields ls c event fresh → StepThere fields states f at o
+      → (isStep f at && (fired f at c fresh event) .fires) ≡ isFired (fireBy o (configOf ls c) event)
   unfolding isStep
-  fires-by none at event h = rw h
-  fires-by (some s) at event h =
-      rw (step-there fields states f at s (h .0) (h .1), fire-answer fields states f at c s event (h .1) r)
-      (sym (answered ((fired f at c event) .fires) (configOf ((fired f at c event) .config))))
+  fires-by none at event k h = rw h
+  fires-by (some s) at event k h =
+      rw (step-there fields states f at s (h .0) (h .1), fire-answer fields states f at ls c s fresh event (h .1) r k)
+      (sym (answered ((fired f at c fresh event) .fires) (configOf (gatherAll ls event (s .clauses)) ((fired f at c fresh event) .config))))
 
   -- and is expired as the step is
   expires-by : (log : Log) (rising : List Bool) → ((g : ℕ) → getD rising g false ≡ rises (log .fields) g)
-      → (o : Option Step) (at : ℕ) (event : List ℕ) → StepThere fields states f at o
-      → (not (isStep f at) || lapsed f at c rising event) ≡ expiredBy (log .fields) o (configOf c) event
+      → (o : Option Step) (at : ℕ) (event : List ℕ) → Carries fields ls c event fresh → StepThere fields states f at o
+      → (not (isStep f at) || lapsed f at c fresh rising event) ≡ expiredBy (log .fields) o (configOf ls c) event
   unfolding isStep
-  expires-by log rising mark none at event h = rw h
-  expires-by log rising mark (some s) at event h =
-      rw (step-there fields states f at s (h .0) (h .1)) (expired-encode fields states f at s (h .1) (log .fields) rising mark c r event)
+  expires-by log rising mark none at event k h = rw h
+  expires-by log rising mark (some s) at event k h =
+      rw (step-there fields states f at s (h .0) (h .1)) (expired-encode fields states f at s (h .1) (log .fields) rising mark ls c r fresh event k)
 
 -- the machine of a log and a formula
-module _ (log : Log) (formula : Formula) (fields states : ℕ) (f table : List ℕ) (chart : Charted fields states formula f table) (c : Configuration)
-    (r : Ready c) (n : ℕ) where
+module _ (log : Log) (formula : Formula) (fields states : ℕ) (f table : List ℕ) (chart : Charted fields states formula f table)
+    (ls : List (List ℕ)) (c : Configuration) (r : Ready c) (n : ℕ) (fresh : List Bool) where
   -- on an event whose fields the code holds
-  module _ (event : List ℕ) (held : (g : ℕ) → field event g ≡ field ((eventAt log n) .values) g) where
-    same-fire : (o : Option Step) → fireBy o (configOf c) event ≡ fireBy o (configOf c) ((eventAt log n) .values)
+  module _ (event : List ℕ) (lists : Carries fields ls c event fresh) (held : (g : ℕ) → field event g ≡ field ((eventAt log n) .values) g) where
+    same-fire : (o : Option Step) → fireBy o (configOf ls c) event ≡ fireBy o (configOf ls c) ((eventAt log n) .values)
     same-fire none = refl
-    same-fire (some s) = fire-fields event ((eventAt log n) .values) held (configOf c) s
+    same-fire (some s) = fire-fields event ((eventAt log n) .values) held (configOf ls c) s
 
     -- Step k fires in the code exactly where it fires in the machine.
-    pub fires-machine : (k : ℕ) → k < 8 → firesAt f table c event k ≡ isFired (fireAt log formula (configOf c) n k)
+    pub fires-machine : (k : ℕ) → k < 8 → firesAt f table c fresh event k ≡ isFired (fireAt log formula (configOf ls c) n k)
     unfolding firesAt fireAt
     fires-machine k h =
-        fires-by fields states f c r (stepAt formula (c .state) k) (offsetOf table (c .state) k) event (chart .stands (c .state) k h)
+        fires-by fields states f ls c r fresh (stepAt formula (c .state) k) (offsetOf table (c .state) k) event lists (chart .stands (c .state) k h)
         ∙ ap isFired (same-fire (stepAt formula (c .state) k))
 
   -- by the latest values of the fields, where the code holds them
-  module _ (x : List ℕ) (held : (g : ℕ) → field x g ≡ field (latest log n) g) (rising : List Bool)
+  module _ (x : List ℕ) (lists : Carries fields ls c x fresh) (held : (g : ℕ) → field x g ≡ field (latest log n) g) (rising : List Bool)
       (mark : (g : ℕ) → getD rising g false ≡ rises (log .fields) g) where
-    same-expired : (o : Option Step) → expiredBy (log .fields) o (configOf c) x ≡ expiredBy (log .fields) o (configOf c) (latest log n)
+    same-expired : (o : Option Step) → expiredBy (log .fields) o (configOf ls c) x ≡ expiredBy (log .fields) o (configOf ls c) (latest log n)
     same-expired none = refl
-    same-expired (some s) = expired-fields x (latest log n) held (log .fields) (configOf c) s
+    same-expired (some s) = expired-fields x (latest log n) held (log .fields) (configOf ls c) s
 
     -- Step k is expired in the code exactly where it is expired in the machine.
-    pub expires-machine : (k : ℕ) → k < 8 → expiresAt f table c rising x k ≡ expiredAt log formula (configOf c) k n
+    pub expires-machine : (k : ℕ) → k < 8 → expiresAt f table c fresh rising x k ≡ expiredAt log formula (configOf ls c) k n
     unfolding expiresAt expiredAt
     expires-machine k h =
-        expires-by fields states f c r log rising mark (stepAt formula (c .state) k) (offsetOf table (c .state) k) x (chart .stands (c .state) k h)
+        expires-by fields states f ls c r fresh log rising mark (stepAt formula (c .state) k) (offsetOf table (c .state) k) x lists
+        (chart .stands (c .state) k h)
         ∙ same-expired (stepAt formula (c .state) k)
 
-    alive-machine : (m : ℕ) → m ≤ 8 → aliveBelow (expiresAt f table c rising x) m ≡ anyAlive (machine log formula) (configOf c) n m
+    alive-machine : (m : ℕ) → m ≤ 8 → aliveBelow (expiresAt f table c fresh rising x) m ≡ anyAlive (machine log formula) (configOf ls c) n m
     unfolding aliveBelow anyAlive
     alive-machine zero h = refl
     alive-machine (suc m) h = rw (expires-machine m (omega arith), alive-machine m (omega arith))
 
     -- Some step is not expired in the code exactly where the machine's configuration is hopeful.
-    pub hopeful-machine : aliveBelow (expiresAt f table c rising x) 8 ≡ anyAlive (machine log formula) (configOf c) n 8
+    pub hopeful-machine : aliveBelow (expiresAt f table c fresh rising x) 8 ≡ anyAlive (machine log formula) (configOf ls c) n 8
     hopeful-machine = alive-machine 8 (omega arith)
 
 -- k is the lowest of the 8 numbers that passes the test, 8 where none does
@@ -129,14 +130,14 @@ lowest-means p = lowest-from p 0 8 (omega arith) (λ j l. absurd (omega arith))
 
 -- "the lowest numbered step that fires": the code's answer is the machine's lowest step that fires, 8 where none does.
 pub lowest-machine : (log : Log) (formula : Formula) (fields states : ℕ) (f table : List ℕ) → Charted fields states formula f table
-    → (c : Configuration) → Ready c → (n : ℕ) (event : List ℕ)
+    → (ls : List (List ℕ)) (c : Configuration) → Ready c → (n : ℕ) (fresh : List Bool) (event : List ℕ) → Carries fields ls c event fresh
     → ((g : ℕ) → field event g ≡ field ((eventAt log n) .values) g)
-    → Lowest (λ k. isFired (fireAt log formula (configOf c) n k)) (lowestOf (firesAt f table c event))
-lowest-machine log formula fields states f table chart c r n event held =
-    let l = lowest-means (firesAt f table c event) in
-    let e = fires-machine log formula fields states f table chart c r n event held in
+    → Lowest (λ k. isFired (fireAt log formula (configOf ls c) n k)) (lowestOf (firesAt f table c fresh event))
+lowest-machine log formula fields states f table chart ls c r n fresh event lists held =
+    let l = lowest-means (firesAt f table c fresh event) in
+    let e = fires-machine log formula fields states f table chart ls c r n fresh event lists held in
     record {
       most = l .most;
       before = λ j i. sym (e j (omega (arith, l .most))) ∙ l .before j i;
-      here = λ i. sym (e (lowestOf (firesAt f table c event)) i) ∙ l .here i;
+      here = λ i. sym (e (lowestOf (firesAt f table c fresh event)) i) ∙ l .here i;
     }

@@ -11,8 +11,7 @@ use lib.Dec.{eqb, ltb}
 use Rattle.base.proofs.Tests.{or-right}
 use Rattle.machine_code.specs.declared.Configuration.{Configuration}
 use Rattle.machine_code.specs.declared.Walked.{Walked}
-use Rattle.guard_code.specs.inner.Bytes.{leafValue, guardAt}
-use Rattle.machine_code.specs.inner.Bytes.{isClause, walkFrom, begun, walked, raised, fired, lapsed, offsetOf, isStep, firesAt, expiresAt}
+use Rattle.machine_code.specs.inner.Bytes.{isClause, walkFrom, begun, walked, raised, guardBehind, fired, lapsed, offsetOf, isStep, firesAt, expiresAt}
 use Rattle.machine_code.specs.inner.Bytes.{lowestFrom, lowestOf, aliveBelow}
 use Rattle.machine_code.proofs.ClausesOnBytes.{Walking, walking-done}
 use Rattle.machine_code.proofs.EventAlone.{walk-fails}
@@ -88,41 +87,41 @@ module _ (p : ℕ → Bool) where
   alive-here k h e = sym (alive-below k 8 h e)
 
 -- how one step of the search ends
-module _ (f table : List ℕ) (c : Configuration) (event : List ℕ) (k at : ℕ) (place : at ≡ offsetOf table (c .state) k) where
-  pub fires-absent : isStep f at ≡ false → firesAt f table c event k ≡ false
+module _ (f table : List ℕ) (c : Configuration) (fresh : List Bool) (event : List ℕ) (k at : ℕ) (place : at ≡ offsetOf table (c .state) k) where
+  pub fires-absent : isStep f at ≡ false → firesAt f table c fresh event k ≡ false
   unfolding firesAt
   fires-absent h = rw (← place, h)
 
-  module _ (there : isStep f at ≡ true) (v w : Walked) (from : v ≡ begun at c) (way : Walking f (c .values) (replicate 8 false) event v w) where
+  module _ (there : isStep f at ≡ true) (v w : Walked) (from : v ≡ begun at c) (way : Walking f (c .values) fresh (replicate 8 false) event v w) where
     abbrev whole : Walked
-    whole = walked f at c (replicate 8 false) event
+    whole = walked f at c fresh (replicate 8 false) event
 
-    fires-fired : firesAt f table c event k ≡ (whole .passes && guardAt (leafValue (whole .values) (raised (c .counters) (c .state))) f (whole .at))
+    fires-fired : firesAt f table c fresh event k ≡ (whole .passes && guardBehind f whole (raised (c .counters) (c .state)))
     unfolding firesAt fired
     fires-fired = rw (← place, there, lt-leb (length f) at (step-inside f at there))
 
-    ahead : whole ≡ walkFrom (way .left) f (c .values) (replicate 8 false) event w
+    ahead : whole ≡ walkFrom (way .left) f (c .values) fresh (replicate 8 false) event w
     unfolding walked
     ahead = rw (← from) (way .ahead)
 
     -- a test that fails
-    pub fires-failed : w .passes ≡ false → firesAt f table c event k ≡ false
-    fires-failed h = fires-fired ∙ rw (ahead, walk-fails f (c .values) (replicate 8 false) event (way .left) w h)
+    pub fires-failed : w .passes ≡ false → firesAt f table c fresh event k ≡ false
+    fires-failed h = fires-fired ∙ rw (ahead, walk-fails f (c .values) fresh (replicate 8 false) event (way .left) w h)
 
     -- every test passes, and the guard decides
     pub fires-guard : (counters : List ℕ) (b g : Bool) → counters ≡ raised (c .counters) (c .state) → isClause (getD f (w .at) 0) ≡ false
-        → w .passes ≡ true → g ≡ guardAt (leafValue (w .values) counters) f (w .at) → g ≡ b → firesAt f table c event k ≡ b
+        → w .passes ≡ true → g ≡ guardBehind f w counters → g ≡ b → firesAt f table c fresh event k ≡ b
     unfolding walked
     fires-guard counters b g n stop h e q =
-        let d : w ≡ walked f at c (replicate 8 false) event = rw (← from) (walking-done f (c .values) (replicate 8 false) event v w way stop) in
+        let d : w ≡ walked f at c fresh (replicate 8 false) event = rw (← from) (walking-done f (c .values) fresh (replicate 8 false) event v w way stop) in
         fires-fired ∙ rw (← d, h, ← n, ← e) q
 
 -- a step is expired where it is not there, and else where it lapses
-module _ (f table : List ℕ) (c : Configuration) (rises : List Bool) (latest : List ℕ) (k at : ℕ) (place : at ≡ offsetOf table (c .state) k) where
-  pub expires-absent : isStep f at ≡ false → expiresAt f table c rises latest k ≡ true
+module _ (f table : List ℕ) (c : Configuration) (fresh rises : List Bool) (latest : List ℕ) (k at : ℕ) (place : at ≡ offsetOf table (c .state) k) where
+  pub expires-absent : isStep f at ≡ false → expiresAt f table c fresh rises latest k ≡ true
   unfolding expiresAt
   expires-absent h = rw (← place, h)
 
-  pub expires-there : isStep f at ≡ true → expiresAt f table c rises latest k ≡ lapsed f at c rises latest
+  pub expires-there : isStep f at ≡ true → expiresAt f table c fresh rises latest k ≡ lapsed f at c fresh rises latest
   unfolding expiresAt
   expires-there h = rw (← place, h)

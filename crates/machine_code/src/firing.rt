@@ -22,8 +22,8 @@ pub fn raise(counters: [u32; 16], s: u32) -> [u32; 16]
 }
 
 // Whether the STEP at an offset fires on an event, and the configuration that it leaves.
-pub fn fire(f: &[u8], at: usize, c: Configuration, event: Event) -> Fired
-    ensures { λ r. ⌜ r ≡ fired (now (f .entry)) at c (event .values) ⌝ }
+pub fn fire(f: &[u8], at: usize, c: Configuration, fresh: [bool; 32], event: Event) -> Fired
+    ensures { λ r. ⌜ r ≡ fired (now (f .entry)) at c fresh (event .values) ⌝ }
 {
     if f.len() <= at {
         return Fired {
@@ -33,9 +33,10 @@ pub fn fire(f: &[u8], at: usize, c: Configuration, event: Event) -> Fired
     }
     let target = base::byte_at(f, at + 1);
     let fields = event.values;
-    let w = walk(f, at, c, [false; 8], fields);
+    let w = walk(f, at, c, fresh, [false; 8], fields);
     let held = w.held;
     let values = w.values;
+    let tallies = w.tallies;
     let old = c.counters;
     let counters = raise(old, c.state);
     let config = Configuration {
@@ -43,10 +44,11 @@ pub fn fire(f: &[u8], at: usize, c: Configuration, event: Event) -> Fired
         held,
         values,
         counters,
+        tallies,
     };
     if w.passes {
         return Fired {
-            fires: guard_holds(f, w.at, values, counters),
+            fires: guard_holds(f, w.at, values, counters, tallies),
             config,
         };
     }

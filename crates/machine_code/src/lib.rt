@@ -6,15 +6,18 @@ pub mod marks;
 pub mod steps;
 
 // "A configuration is a state, the held variables with values, and a counter per state"; a value is 0 where its variable is not held.
+// Of the 4 lists it holds only what guards read: their sums, their lengths, their numbers of different values.
 pub struct Configuration {
     pub state: u32,
     pub held: [bool; 8],
     pub values: [u32; 8],
     pub counters: [u32; 16],
+    pub tallies: [u32; 12],
 }
 
 // A walk over a step's clauses: where it stands, whether every clause so far passes, whether one is past due, the variables
-// held so far with their values, and those whose value only grows: held before the step, or first bound to a rising field.
+// held so far with their values, and those whose value only grows: held before the step, or first bound to a rising field; the
+// tallies so far, the lists into which every field gathered so far is rising, and those into which none was gathered.
 struct Walked {
     at: usize,
     passes: bool,
@@ -22,6 +25,9 @@ struct Walked {
     held: [bool; 8],
     values: [u32; 8],
     grows: [bool; 8],
+    tallies: [u32; 12],
+    rising: [bool; 4],
+    unchanged: [bool; 4],
 }
 
 // Whether a step fires, and the configuration that it leaves.

@@ -9,12 +9,13 @@ ghost use lib.ListN.{length};
 ghost use Rattle.machine_code.specs.inner.Marks.{BarredIs, DueIs, widthOf, failsAt, missesAt};
 
 // The bytes of a clause, by its command; 0 for what is no clause.
-fn width(command: u32) -> usize
+pub fn width(command: u32) -> usize
     ensures { λ r. ⌜ r ≡ widthOf command ⌝ }
 {
     match command {
         0x12 => 7,
         0x13 => 4,
+        0x17 => 3,
         0x14 => 3,
         _ => 0,
     }

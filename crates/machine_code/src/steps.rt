@@ -36,8 +36,8 @@ fn is_step(f: &[u8], at: usize) -> bool
 }
 
 // The number of the lowest numbered step of the configuration's state that fires on the event, 8 where none does.
-pub fn lowest(f: &[u8], table: &[usize], c: Configuration, event: Event) -> usize
-    ensures { λ r. ⌜ r ≡ lowestOf (firesAt (now (f .entry)) (now (table .entry)) c (event .values)) ⌝ }
+pub fn lowest(f: &[u8], table: &[usize], c: Configuration, fresh: [bool; 32], event: Event) -> usize
+    ensures { λ r. ⌜ r ≡ lowestOf (firesAt (now (f .entry)) (now (table .entry)) c fresh (event .values)) ⌝ }
 {
     let fields = event.values;
     let prior = c.values;
@@ -56,13 +56,14 @@ pub fn lowest(f: &[u8], table: &[usize], c: Configuration, event: Event) -> usiz
         }
         let mut w = begin(at, c);
         while is_clause(f, w.at) {
-            w = clause(f, w, prior, [false; 8], fields);
+            w = clause(f, w, prior, fresh, [false; 8], fields);
             if !w.passes {
                 continue 'steps;
             }
         }
         let values = w.values;
-        if guard_holds(f, w.at, values, counters) {
+        let tallies = w.tallies;
+        if guard_holds(f, w.at, values, counters, tallies) {
             break 'steps k;
         }
     }
@@ -73,10 +74,11 @@ pub fn hopeful(
     f: &[u8],
     table: &[usize],
     c: Configuration,
+    fresh: [bool; 32],
     rises: [bool; 8],
     latest: Latest,
 ) -> bool
-    ensures { λ r. ⌜ r ≡ aliveBelow (expiresAt (now (f .entry)) (now (table .entry)) c rises (latest .values)) 8 ⌝ }
+    ensures { λ r. ⌜ r ≡ aliveBelow (expiresAt (now (f .entry)) (now (table .entry)) c fresh rises (latest .values)) 8 ⌝ }
 {
     let mut next: usize = 0;
     while next < 8 {
@@ -86,7 +88,7 @@ pub fn hopeful(
         if !is_step(f, at) {
             continue;
         }
-        if !expired(f, at, c, rises, latest) {
+        if !expired(f, at, c, fresh, rises, latest) {
             return true;
         }
     }

@@ -33,6 +33,8 @@ pub enum Refusal {
     Short { needed: usize },
     // 11: more configurations wait than there are seats
     Crowded { place: usize },
+    // 12: one STEP gathers a variable a second time
+    Twice { place: usize },
 }
 
 // Whether a file is accepted.
@@ -85,6 +87,7 @@ pub fn report_of(r: Refusal) -> Report
         Refusal::Outside { start } => line(3, 9, start),
         Refusal::Short { needed } => line(3, 10, needed),
         Refusal::Crowded { place } => line(3, 11, place),
+        Refusal::Twice { place } => line(2, 12, place),
     }
 }
 

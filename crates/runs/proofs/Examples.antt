@@ -6,7 +6,7 @@ use mathlib.Core.List.{[], _∷_}
 use Prim.Native.Nat.{ℕ, zero, suc}
 use lib.Dec.{eqb}
 use Rattle.runs.specs.Machine.{Machine}
-use Rattle.runs.specs.inner.Lists.{keep, gather, has, distinct}
+use Rattle.runs.specs.inner.Lists.{keep, inTurn, has, distinct}
 use Rattle.runs.specs.inner.Order.{lex, order}
 use Rattle.runs.specs.Answer.{found, crowded}
 use Rattle.runs.specs.inner.Search.{firing, moves, stays, unended, offers, next, endings, lesser, leastFrom, least, anyAlive, hopeful, waiting, waitingCount, scan, origin, search}
@@ -46,12 +46,12 @@ longer-first : search late 2 0 ≡ found (record {
       3;
   over = true;
 }) (record { event = 0; step = 0 } ∷ (record { event = 1; step = 0 } ∷ (record { event = 2; step = 1 } ∷ []))) 2
-unfolding keep gather lex order firing moves stays unended offers next endings lesser leastFrom least anyAlive hopeful origin has distinct waiting waitingCount
+unfolding keep inTurn lex order firing moves stays unended offers next endings lesser leastFrom least anyAlive hopeful origin has distinct waiting waitingCount
     scan search
 longer-first = refl
 
 -- with one slot the search is crowded after event 1
 one-slot : threads late 1 0 ≡ crowded 1
-unfolding keep gather lex order firing moves stays unended offers next endings lesser leastFrom least anyAlive hopeful origin candidates insert insertWithin
+unfolding keep inTurn lex order firing moves stays unended offers next endings lesser leastFrom least anyAlive hopeful origin candidates insert insertWithin
     follow threads
 one-slot = refl

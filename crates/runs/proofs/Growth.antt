@@ -7,7 +7,7 @@ use mathlib.Core.List.{List, [], _∷_, _++_, nil≢cons}
 use Prim.Native.Nat.{ℕ, suc, _<_}
 use native.Mathlib.Omega.{arith}
 use lib.ListN.{take}
-use Rattle.runs.specs.inner.Lists.{only, keep, gather}
+use Rattle.runs.specs.inner.Lists.{only, keep, inTurn}
 use Rattle.runs.specs.Machine.{Machine}
 use Rattle.runs.specs.Run.{Quiet}
 use Rattle.runs.specs.inner.Search.{Thread, begun, arrive, firing, chosen, moves, passesOver, stays, offers, next, ended, lesser, leastFrom, hopeful}
@@ -39,7 +39,7 @@ module _ (M : Machine) where
   -- ---- one thread more
 
   pub candidates-cons : (n : ℕ) (th : Thread M) (ths : List (Thread M)) → candidates M n (th ∷ ths) ≡ keep (hopeful M n) (offers M n th) ++ candidates M n ths
-  unfolding candidates next gather
+  unfolding candidates next inTurn
   candidates-cons n th ths = keep-append (hopeful M n) (offers M n th) (next M n ths)
 
   -- ---- one step number more

@@ -8,7 +8,7 @@ use native.Mathlib.Nat.{le-antisymm}
 use native.Mathlib.Omega.{arith}
 use lib.ListN.{length}
 use Rattle.runs.specs.Lists.{In, Distinct}
-use Rattle.runs.specs.inner.Lists.{only, keep, gather, has, distinct}
+use Rattle.runs.specs.inner.Lists.{only, keep, inTurn, has, distinct}
 
 module _ {A : Type 0} where
   -- membership in `only`: the first where the test holds, or the rest
@@ -49,19 +49,19 @@ module _ {A : Type 0} where
     pub member : In giver bs
     pub gives : In a (f giver)
 
-  pub gather-in : {B : Type 0} (f : B → List A) (bs : List B) {a : A} → In a (gather f bs) → Given f bs a
-  unfolding gather
-  gather-in f [] m = absurd (List·Memᴰ·not-nil m)
-  gather-in f (b ∷ bs) {a} m = go (List·Memᴰ·append-cases (f b) m) (λ r. gather-in f bs r)
+  pub turn-in : {B : Type 0} (f : B → List A) (bs : List B) {a : A} → In a (inTurn f bs) → Given f bs a
+  unfolding inTurn
+  turn-in f [] m = absurd (List·Memᴰ·not-nil m)
+  turn-in f (b ∷ bs) {a} m = go (List·Memᴰ·append-cases (f b) m) (λ r. turn-in f bs r)
     where
-      go : In a (f b) ⊎ In a (gather f bs) → (In a (gather f bs) → Given f bs a) → Given f (b ∷ bs) a
+      go : In a (f b) ⊎ In a (inTurn f bs) → (In a (inTurn f bs) → Given f bs a) → Given f (b ∷ bs) a
       go (inl h) ih = record { giver = b; member = List·Memᴰ·head refl; gives = h }
       go (inr r) ih = record { giver = ih r .giver; member = List·Memᴰ·tail (ih r .member); gives = ih r .gives }
 
-  pub gather-out : {B : Type 0} (f : B → List A) {bs : List B} {b : B} {a : A} → In b bs → In a (f b) → In a (gather f bs)
-  unfolding gather
-  gather-out f {a = a} (List·Memᴰ·head {x = x} {xs = xs} e) g = Memᴰ·append-left (gather f xs) (subst (λ y. In a (f y)) e g)
-  gather-out f (List·Memᴰ·tail {x = x} {xs = xs} m) g = Memᴰ·append-right (f x) (gather-out f m g)
+  pub turn-out : {B : Type 0} (f : B → List A) {bs : List B} {b : B} {a : A} → In b bs → In a (f b) → In a (inTurn f bs)
+  unfolding inTurn
+  turn-out f {a = a} (List·Memᴰ·head {x = x} {xs = xs} e) g = Memᴰ·append-left (inTurn f xs) (subst (λ y. In a (f y)) e g)
+  turn-out f (List·Memᴰ·tail {x = x} {xs = xs} m) g = Memᴰ·append-right (f x) (turn-out f m g)
 
   -- a member of a list of images
   pub record Image {B : Type 0} (f : B → A) (bs : List B) (a : A) : Type 0 where

@@ -15,7 +15,7 @@ use Rattle.runs.specs.inner.Laws.{Laws}
 use Rattle.runs.specs.Run.{Entry, Trail, lastOr, last, Starts, Quiet, Takes, Follow, Run, Partial}
 use Rattle.runs.specs.Waiting.{Waits, Count}
 use Rattle.runs.specs.inner.Search.{Thread, begun, moves, stays, unended, offers, next, ended, endings, hopeful, waiting, waitingCount, origin}
-use Rattle.runs.proofs.Lists.{only-in, only-first, only-rest, keep-in, keep-out, Given, gather-in, gather-out, map-in, map-out, distinct-in, distinct-out, distinct-once}
+use Rattle.runs.proofs.Lists.{only-in, only-first, only-rest, keep-in, keep-out, Given, turn-in, turn-out, map-in, map-out, distinct-in, distinct-out, distinct-once}
 use Rattle.runs.proofs.Trails.{after, after-snoc, last-snoc, after-last, rising-after, length-snoc, follow-rising, follow-snoc, Parted, follow-part}
 use Rattle.runs.proofs.Moves.{Moved, moves-in, moves-out, stays-in, stays-out, unended-in, unended-out, hopeful-in, hopeful-out}
 
@@ -175,7 +175,7 @@ module _ (M : Machine) where
       sound th m = go (only-in (stays M n (g .giver)) (g .gives))
         where
           g : Given (offers M n) ths th
-          g = gather-in (offers M n) ths m
+          g = turn-in (offers M n) ths m
 
           go : ((stays M n (g .giver) ≡ true) × (th ≡ g .giver)) ⊎ In th (keep (unended M) (moves M n (g .giver))) → Live i (suc n) th
           go (inl s) = subst (Live i (suc n)) (sym (s .1)) (stay-live i n (g .giver) (x .sound (g .giver) (g .member)) (s .0))
@@ -187,7 +187,7 @@ module _ (M : Machine) where
           → In (record { config = c; trail = t }) (next M n ths)
       stay c t a e b s =
           let th : Thread M = record { config = c; trail = t } in
-          gather-out (offers M n)
+          turn-out (offers M n)
           (x .complete th (record
           { begins = s; follows = a .follows; early = e; going = a .going; most = a .most; patient = λ k m p q. a .patient k m p (omega (arith, q)) }))
           (only-first (keep (unended M) (moves M n th)) (stays-out M n th b (λ k. a .patient k n e (omega arith))))
@@ -199,7 +199,7 @@ module _ (M : Machine) where
       complete c (y ∷ t) a (inl q) =
           let w : Thread M = record { config = c; trail = y ∷ t } in
           let s = step-back i n y t c (a .begins) (a .follows) (omega (arith, q, after-last y t)) (omega (arith, a .most)) in
-          gather-out (offers M n) (x .complete (s .from) (s .live))
+          turn-out (offers M n) (x .complete (s .from) (s .live))
           (only-rest (stays M n (s .from)) (s .from)
           (keep-out (unended M) (step-moves i n w s)
           (unended-out M w (a .going) (a .most))))
@@ -212,7 +212,7 @@ module _ (M : Machine) where
   pub endings-in : (i n : ℕ) (ths : List (Thread M)) → n < events → Exact i n ths → (x : Thread M) → In x (endings M n ths) → Ends i n x
   unfolding endings
   endings-in i n ths l e x m =
-      let g = gather-in (λ (th : Thread M). keep (ended M) (moves M n th)) ths m in
+      let g = turn-in (λ (th : Thread M). keep (ended M) (moves M n th)) ths m in
       let q = keep-in (ended M) (moves M n (g .giver)) (g .gives) in
       let v = moves-in M n (g .giver) x (q .member) in
       let live = e .sound (g .giver) (g .member) in
@@ -238,7 +238,7 @@ module _ (M : Machine) where
   endings-out i n ths x [] e r q = absurd (r .path .begins)
   endings-out i n ths x (y ∷ t) e r q =
       let s = step-back i n y t e (r .path .begins) (r .path .follows) q (r .path .most) in
-      gather-out (λ (th : Thread M). keep (ended M) (moves M n th)) (x .complete (s .from) (s .live))
+      turn-out (λ (th : Thread M). keep (ended M) (moves M n th)) (x .complete (s .from) (s .live))
       (keep-out (ended M) (step-moves i n (record { config = e; trail = y ∷ t }) s) (r .ends))
 
 module _ (M : Machine) (L : Laws M) where

@@ -19,7 +19,7 @@ use Rattle.runs.specs.Waiting.{Hopeful}
 use Rattle.runs.specs.Answer.{Answer}
 use Rattle.runs.specs.inner.Search.{Thread, moves, stays, unended, offers, next, ended, endings, least, hopeful, waiting, waitingCount, overfull, outcome, scan, origin, search}
 use Rattle.runs.specs.inner.Threads.{candidates, advance, within, onward, follow, threads}
-use Rattle.runs.proofs.Lists.{only-in, only-first, only-rest, Passed, keep-in, keep-out, Given, gather-in, gather-out, Image, map-in, map-out, distinct-in, distinct-out, distinct-once, same-length}
+use Rattle.runs.proofs.Lists.{only-in, only-first, only-rest, Passed, keep-in, keep-out, Given, turn-in, turn-out, Image, map-in, map-out, distinct-in, distinct-out, distinct-once, same-length}
 use Rattle.runs.proofs.Comparison.{AtMost, at-most-append}
 use Rattle.runs.proofs.Trails.{follow-one, follow-valid, start-weight}
 use Rattle.runs.proofs.Moves.{stepped, Moved, moves-in, moves-out, stays-in, stays-out, begun-same, unended-in, unended-out, hopeful-in, hopeful-out, hopeless-in}
@@ -98,14 +98,14 @@ module _ (M : Machine) (L : Laws M) where
     where
       sub : (y : Thread M) → In y (endings M n w) → In y (endings M n all)
       sub y m =
-          let g = gather-in (λ (th : Thread M). keep (ended M) (moves M n th)) w m in
-          gather-out (λ (th : Thread M). keep (ended M) (moves M n th)) (s .from (g .giver) (g .member)) (g .gives)
+          let g = turn-in (λ (th : Thread M). keep (ended M) (moves M n th)) w m in
+          turn-out (λ (th : Thread M). keep (ended M) (moves M n th)) (s .from (g .giver) (g .member)) (g .gives)
 
       under : (th y : Thread M) → In th all → Moved M n th y → final (y .config) ≡ true → Covered M w th ⊎ Dead M n (th .config) → Under M (endings M n w) y
       under th y m v f (inl c) =
           record {
             thread = stepped M (c .thread) n (v .number) (y .config);
-            member = gather-out (λ (th : Thread M). keep (ended M) (moves M n th)) (c .member)
+            member = turn-out (λ (th : Thread M). keep (ended M) (moves M n th)) (c .member)
                 (keep-out (ended M) (shifted M n th y (c .thread) (c .config-is) v) f);
             under = shifted-under M n th y (c .thread) v
                 (same-steps i n (c .thread) th (x .sound (c .thread) (s .from (c .thread) (c .member))) (x .sound th m) (c .config-is)) (c .under);
@@ -113,7 +113,7 @@ module _ (M : Machine) (L : Laws M) where
       under th y m v f (inr d) = absurd (dead-moves M n th y l d v)
 
       cover : (y : Thread M) → In y (endings M n all) → Under M (endings M n w) y
-      cover y m = of (gather-in (λ (th : Thread M). keep (ended M) (moves M n th)) all m)
+      cover y m = of (turn-in (λ (th : Thread M). keep (ended M) (moves M n th)) all m)
         where
           of : Given (λ (th : Thread M). keep (ended M) (moves M n th)) all y → Under M (endings M n w) y
           of g =
@@ -133,12 +133,12 @@ module _ (M : Machine) (L : Laws M) where
   candidate : (i n : ℕ) (w all : List (Thread M)) → n < events → Exact M i n all → Selects M n w all → (x : Thread M) → In x (next M n all)
       → hopeful M n x ≡ true → Covered M (advance M n w) x
   unfolding next offers candidates advance
-  candidate i n w all l ex s x m h = of (gather-in (offers M n) all m)
+  candidate i n w all l ex s x m h = of (turn-in (offers M n) all m)
     where
       enter : (t y : Thread M) → In t w → In y (offers M n t) → y .config ≡ x .config → AtMost (y .trail) (x .trail) → Covered M (advance M n w) x
       enter t y k o e a =
           covered-trans M (advance M n w) y x e a
-          (insertAll-covers M L [] (candidates M n w) y (keep-out (hopeful M n) (gather-out (offers M n) k o) (hopeful-same M n x y e h)))
+          (insertAll-covers M L [] (candidates M n w) y (keep-out (hopeful M n) (turn-out (offers M n) k o) (hopeful-same M n x y e h)))
 
       long : (th : Thread M) → In th all → (c : Covered M w th) → length (c .thread .trail) ≡ length (th .trail)
       long th k c = same-steps i n (c .thread) th (ex .sound (c .thread) (s .from (c .thread) (c .member))) (ex .sound th k) (c .config-is)
@@ -185,13 +185,13 @@ module _ (M : Machine) (L : Laws M) where
   advanced n w all s x m = go (insertAll-from M [] (candidates M n w) x m)
     where
       up : Given (offers M n) w x → In x (next M n all)
-      up g = gather-out (offers M n) (s .from (g .giver) (g .member)) (g .gives)
+      up g = turn-out (offers M n) (s .from (g .giver) (g .member)) (g .gives)
 
       go : In x [] ⊎ In x (candidates M n w) → Passed (hopeful M n) (next M n all) x
       go (inl h) = absurd (List·Memᴰ·not-nil h)
       go (inr h) =
           let q = keep-in (hopeful M n) (next M n w) h in
-          record { member = up (gather-in (offers M n) w (q .member)); passes = q .passes }
+          record { member = up (turn-in (offers M n) w (q .member)); passes = q .passes }
 
   same-count : (i n : ℕ) (w all : List (Thread M)) → n < events → Exact M i n all → Selects M n w all → length (advance M n w) ≡ waitingCount M n (next M n all)
   unfolding waiting waitingCount advance

@@ -48,10 +48,10 @@ handed t fm l f log formula slots a =
             table-is = ap (λ (x : FormulaReading). x .table) (a .formula-read);
             kinds-are = ap (λ (x : FormulaReading). x .kinds) (a .formula-read);
             rising-are = ap (λ (x : LogReading). x .rises) (a .log-read);
+            fields-are = ap (λ (x : LogReading). x .fields) (a .log-read);
           };
       leads = subst (λ (ps : List ℕ). Leads l ps (logOf t)) (sym (ap (λ (x : LogReading). x .places) (a .log-read)))
           (table-leads t l (a .log-correct) (a .log-bytes));
-      fields-are = ap (λ (x : LogReading). x .fields) (a .log-read);
       events-are = ap (λ (x : LogReading). x .events) (a .log-read);
     }
 

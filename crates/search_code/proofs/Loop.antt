@@ -20,20 +20,20 @@ use Rattle.formula.specs.Formula.{Formula}
 use Rattle.runs.specs.Machine.{Machine}
 use Rattle.runs.specs.inner.Search.{endings, least, leastFrom, next, origin, search}
 use Rattle.runs.specs.Answer.{found, absent}
-use Rattle.runs.specs.inner.Lists.{keep, gather}
+use Rattle.runs.specs.inner.Lists.{keep, inTurn}
 use Rattle.runs.specs.inner.Threads.{candidates, insertWithin, follow, threads}
 use Rattle.runs.specs.Order.{events, numbers}
 use Rattle.runs.proofs.Loop.{ahead, event-over, event-found, event-crowded, event-next}
+use Rattle.machine.specs.inner.Along.{along}
 use Rattle.machine.specs.Configuration.{start}
 use Rattle.machine.specs.Machine.{machine, kindIs, isAccept, accepting}
 use Rattle.machine.proofs.Machine.{valid-start}
-use Rattle.machine_code.specs.inner.Bytes.{configOf}
 use Rattle.slots.specs.declared.Thread.{Thread}
 use Rattle.slots.specs.inner.Threads.{originThread, trailOf}
 use Rattle.slots.specs.inner.Words.{wordsOf, threadOf, put, place, threadsFrom, list}
 use Rattle.slots.proofs.Slots.{threads-length}
 use Rattle.threads.specs.declared.Rules.{Rules}
-use Rattle.threads.specs.inner.Setting.{Setting, Loads, Fit, thread}
+use Rattle.threads.specs.inner.Setting.{Setting, Loads, Fit, conf, thread}
 use Rattle.threads.specs.inner.Event.{Kept, waitingIn}
 use Rattle.search.specs.declared.Verdict.the-variants.{Absent, Accept, Reject}
 use Rattle.search_code.specs.declared.Outcome.the-variants.{Found, Crowded, Waiting}
@@ -53,22 +53,25 @@ event-there g l places fields n r ok e f h q =
 pub origin-stored : (before after : List ℕ) → 192 ≤ length before → after ≡ put before (place 0 0) (wordsOf originThread)
     → (list 0 1 after ≡ originThread ∷ []) × (length after ≡ length before)
 unfolding put wordsOf threadOf threadsFrom
-origin-stored before after h e = (rw e, rw e (omega (arith, length-drop 66 before)))
+origin-stored before after h e = (rw e, rw e (omega (arith, length-drop 78 before)))
 
 -- the thread before the first step is one that a search keeps
-fit-origin : (fm : Formula) → 1 ≤ length (fm .states) → Fit fm originThread
-unfolding start
-fit-origin fm h =
+fit-origin : (g : Log) (fm : Formula) → 1 ≤ length (fm .states) → Fit g fm originThread
+unfolding start trailOf along
+fit-origin g fm h =
     record {
       trail-32 = refl;
       valid = valid-start (length (fm .states)) (omega arith);
       weight = refl;
       most = omega arith;
+      inside = tt;
+      leads = refl;
+      tallies-are = refl;
     }
 
 -- where nobody waits, no run is found and nobody waits any more
 nobody : (M : Machine) (slots k n p : ℕ) → follow M slots k n [] p ≡ absent p
-unfolding follow candidates insertWithin least leastFrom endings next gather keep
+unfolding follow candidates insertWithin least leastFrom endings next inTurn keep
 nobody M slots zero n p = refl
 nobody M slots (suc k) n p = nobody M slots k (suc n) (max p 0) ∙ ap absent (omega arith)
 
@@ -78,7 +81,7 @@ module _ (g : Log) (fm : Formula) where
 
   -- what holds before event n: the waiting list, with the largest width so far, leads to the search's answer
   pub record Going (slots i n half count width : ℕ) (work : List ℕ) : Type 0 where
-    pub kept : Kept fm half count work
+    pub kept : Kept g fm half count work
     pub leads : search (machine g fm) slots i ≡ ahead (machine g fm) slots n (waitingIn g fm half count work) width
 
   -- where nobody waits, the events left change nothing
@@ -94,7 +97,7 @@ module _ (g : Log) (fm : Formula) where
       subst (λ x. Going slots i x half (suc count) width work) (sym (e ∙ ap (λ b. cond b (length (g .events)) n) (ne-eqb (suc count) 0 (omega arith)))) go
 
   waiting-origin : (work : List ℕ) → list 0 1 work ≡ originThread ∷ [] → origin (machine g fm) ≡ waitingIn g fm 0 1 work
-  unfolding origin start trailOf
+  unfolding origin start trailOf along
   waiting-origin work e = sym (ap (map (thread g fm)) e)
 
 module _ (g : Log) (fm : Formula) (f table : List ℕ) (rules : Rules) (s : Setting g fm f table rules) where
@@ -103,7 +106,7 @@ module _ (g : Log) (fm : Formula) (f table : List ℕ) (rules : Rules) (s : Sett
   unfolding threads
   going-start slots i work h e =
       record {
-        kept = record { fit = rw e (fit-origin fm (s .formula .nonempty), tt); short = rw e (omega arith, tt) };
+        kept = record { fit = rw e (fit-origin g fm (s .formula .nonempty), tt); short = rw e (omega arith, tt) };
         leads = sym (threads-give g fm (s .log) (s .formula) slots i (omega arith))
             ∙ ap (λ ths. ahead (machine g fm) slots i ths 0) (waiting-origin g fm work e);
       }
@@ -120,7 +123,7 @@ module _ (g : Log) (fm : Formula) (f table : List ℕ) (rules : Rules) (s : Sett
               (length-waiting g fm (1 - half) more after);
         }
 
-    named-is : (t : Thread) → Fit fm t → answerOf g fm (found (configOf (t .config)) (trailOf t) width) ≡ namedAnswer (rules .kinds) t width
+    named-is : (t : Thread) → Fit g fm t → answerOf g fm (found (conf g fm t) (trailOf t) width) ≡ namedAnswer (rules .kinds) t width
     unfolding accepting
     named-is t fit =
         let e : kindIs isAccept (getElem? (fm .states) (t .config .state)) ≡ eqb (getD (rules .kinds) (t .config .state) 0) 2 =

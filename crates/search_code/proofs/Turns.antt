@@ -32,18 +32,19 @@ use Rattle.search.specs.Search.{without, refusal}
 use Rattle.search_code.specs.inner.Turn.{momentOf, namedAnswer, TurnTo, TurnIs, TurnOf, Given, SearchedFrom}
 use Rattle.search_code.proofs.Loop.{event-there, Going, going-start, going-next, going-onward, going-found, going-crowded, going-over}
 
-module _ (f table : List ℕ) (rules : Rules) (m : Moment) (z : Seats) (before after : List ℕ) (b : Best) (e : EndingIs f table rules m z before b) where
+module _ (l places f table : List ℕ) (rules : Rules) (m : Moment) (z : Seats) (before after : List ℕ) (b : Best)
+    (e : EndingIs l places f table rules m z before b) where
   -- a run ends on the event
-  pub found-turn : b .found ≡ true → TurnIs f table rules m z before after (record { outcome = Found; thread = b .thread })
+  pub found-turn : b .found ≡ true → TurnIs l places f table rules m z before after (record { outcome = Found; thread = b .thread })
   found-turn q g fm s k = let h = e g fm s k in (sym (h .0) ∙ ap (λ x. bestBy g fm x (b .thread)) q, h .1 q)
 
-  no-ending : b .found ≡ false → (g : Log) (fm : Formula) → Scene g fm f table rules m → Kept fm (z .half) (z .count) before
+  no-ending : b .found ≡ false → (g : Log) (fm : Formula) → Scene g fm l places f table rules m → Kept g fm (z .half) (z .count) before
       → Runs.least (machine g fm) (Runs.endings (machine g fm) (m .number) (waitingIn g fm (z .half) (z .count) before)) ≡ none
   no-ending q g fm s k = sym (e g fm s k .0) ∙ ap (λ x. bestBy g fm x (b .thread)) q
 
   -- no run ends on it, and more wait after it than there are slots
-  pub crowded-turn : (more : ℕ) → b .found ≡ false → AdvancedIs f table rules m z before after more → z .slots < more
-      → TurnIs f table rules m z before after (record { outcome = Crowded; thread = b .thread })
+  pub crowded-turn : (more : ℕ) → b .found ≡ false → AdvancedIs l places f table rules m z before after more → z .slots < more
+      → TurnIs l places f table rules m z before after (record { outcome = Crowded; thread = b .thread })
   crowded-turn more q a h g fm s k = go (a g fm s k)
     where
       go : AdvancedTo g fm (m .number) z before after more → TurnTo g fm (z .half) (z .count) (z .slots) (m .number) before after (b .thread) Crowded
@@ -51,8 +52,8 @@ module _ (f table : List ℕ) (rules : Rules) (m : Moment) (z : Seats) (before a
       go (inr x) = (no-ending q g fm s k, x .1)
 
   -- no run ends on it, and the next waiting list has room
-  pub next-turn : (more : ℕ) → b .found ≡ false → AdvancedIs f table rules m z before after more → more ≤ z .slots
-      → TurnIs f table rules m z before after (record { outcome = Waiting more; thread = b .thread })
+  pub next-turn : (more : ℕ) → b .found ≡ false → AdvancedIs l places f table rules m z before after more → more ≤ z .slots
+      → TurnIs l places f table rules m z before after (record { outcome = Waiting more; thread = b .thread })
   next-turn more q a h g fm s k = go (a g fm s k)
     where
       go : AdvancedTo g fm (m .number) z before after more → TurnTo g fm (z .half) (z .count) (z .slots) (m .number) before after (b .thread) (Waiting more)
@@ -60,11 +61,17 @@ module _ (f table : List ℕ) (rules : Rules) (m : Moment) (z : Seats) (before a
       go (inr x) = absurd (omega (arith, x .0))
 
 -- the event's table, from the table of the formula's steps
-pub turn-of : (f steps : List ℕ) (rules : Rules) (m : Moment) (z : Seats) (before after table : List ℕ) (r : Turn) → EventTable f steps (rules .rises) m table
-    → TurnIs f table rules m z before after r → TurnOf f steps rules m z before after r
-turn-of f steps rules m z before after table r o t g fm s l k =
+pub turn-of : (l places f steps : List ℕ) (rules : Rules) (m : Moment) (z : Seats) (before after table : List ℕ) (r : Turn)
+    → EventTable f steps (rules .rises) m table
+    → TurnIs l places f table rules m z before after r → TurnOf l places f steps rules m z before after r
+turn-of l places f steps rules m z before after table r o t g fm s leads loads k =
     let setting = subst (λ (x : List ℕ). Setting g fm f x rules) (s .table-is) s in
-    t g fm (record { setting = setting; loads = l; offsets = subst (λ (x : List ℕ). EventTable f x (rules .rises) m table) (s .table-is) o }) k
+    t g fm (record {
+      setting = setting;
+      leads = leads;
+      loads = loads;
+      offsets = subst (λ (x : List ℕ). EventTable f x (rules .rises) m table) (s .table-is) o;
+    }) k
 
 -- before event n, of whatever log and formula the bytes are
 abbrev pub Searching : List ℕ → List ℕ → List ℕ → List ℕ → Scope → ℕ → ℕ → ℕ → ℕ → ℕ → List ℕ → Type 0
@@ -84,14 +91,16 @@ module _ (l places f table : List ℕ) (scope : Scope) (i : ℕ) where
       omega (arith, ap (λ (y : SearchAnswer). y .width) q),
     )
 
-    module _ (more : n < scope .events) (loaded : Loaded) (there : loaded ≡ loadedAt l (scope .fields) (getD places n 0)) (after : List ℕ) (turn : Turn)
-        (is : TurnOf f table (scope .rules) (momentOf n (loaded .event)) (record { half = half; count = count; slots = scope .slots }) work after turn) where
+    module _ (more : n < scope .events) (loaded : Loaded) (there : loaded ≡ loadedAt l (scope .rules .fields) (getD places n 0)) (after : List ℕ) (turn : Turn)
+        (is : TurnOf l places f table (scope .rules) (momentOf n (loaded .event)) (record { half = half; count = count; slots = scope .slots }) work
+        after turn) where
       -- what the event does
       turned : (g : Log) (fm : Formula) → Given g fm l places f table scope → i < scope .events
           → TurnTo g fm half count (scope .slots) n work after (turn .thread) (turn .outcome)
       turned g fm x k =
-          let here = event-there g l places (scope .fields) n loaded (x .setting .log) (x .leads) (x .fields-are) (omega (arith, x .events-are)) there in
-          is g fm (x .setting) here (S g fm x k .kept)
+          let here = event-there g l places (scope .rules .fields) n loaded (x .setting .log) (x .leads) (x .setting .fields-are)
+          (omega (arith, x .events-are)) there in
+          is g fm (x .setting) (x .leads) here (S g fm x k .kept)
 
       pub searching-next : (m n′ : ℕ) → turn .outcome ≡ Waiting m → n′ ≡ cond (eqb m 0) (scope .events) (n + 1)
           → Searching l places f table scope i n′ (1 - half) m (max width m) after

@@ -48,9 +48,8 @@ struct Entries {
     numbers: [u32; 32],
 }
 
-// What a search is over: the log's number of fields and of events, the rules, and how many slots there are.
+// What a search is over: the log's number of events, the rules, and how many slots there are.
 pub struct Scope {
-    pub fields: usize,
     pub events: usize,
     pub rules: Rules,
     pub slots: usize,
@@ -169,16 +168,18 @@ fn moment_of(n: usize, event: Event) -> Moment
 fn one_event(
     work: &mut [u32],
     seats: Seats,
+    l: &[u8],
+    places: &[usize],
     f: &[u8],
     table: &[usize],
     rules: Rules,
     moment: Moment,
 ) -> Turn
     requires { ⌜ Seated seats (now work) × (moment .number < 1024) ⌝ }
-    ensures { λ r. ⌜ TurnIs (now (f .entry)) (now (table .entry)) rules moment seats (now (work .entry)) (now (work .exit)) r ⌝ }
+    ensures { λ r. ⌜ TurnIs (now (l .entry)) (now (places .entry)) (now (f .entry)) (now (table .entry)) rules moment seats (now (work .entry)) (now (work .exit)) r ⌝ }
     ensures { λ r. ⌜ Fits (seats .slots) (r .outcome) × (length (now (work .exit)) ≡ length (now (work .entry))) ⌝ }
 {
-    let best = threads::ending(work, seats, f, table, rules, moment);
+    let best = threads::ending(work, seats, l, places, f, table, rules, moment);
     let thread = best.thread;
     if best.found {
         return Turn {
@@ -186,7 +187,7 @@ fn one_event(
             thread,
         };
     }
-    let more = threads::advance(work, seats, f, table, rules, moment);
+    let more = threads::advance(work, seats, l, places, f, table, rules, moment);
     if seats.slots < more {
         return Turn {
             outcome: Outcome::Crowded,
@@ -199,23 +200,25 @@ fn one_event(
     }
 }
 
-// One event, with what it alone says of the steps told first: `wide` has the table of the steps in both halves.
+// One event, with what it alone says of the steps told first: `wide` has the table of the steps in its three parts.
 fn at_event(
     work: &mut [u32],
     seats: Seats,
+    l: &[u8],
+    places: &[usize],
     f: &[u8],
-    wide: &[usize; 256],
+    wide: &[usize; 384],
     rules: Rules,
     moment: Moment,
 ) -> Turn
-    requires { ⌜ Seated seats (now work) × (moment .number < 1024) × (length (now wide) ≡ 256) ⌝ }
-    ensures { λ r. ⌜ ((steps : List ℕ) → Wide steps (now (wide .entry)) → TurnOf (now (f .entry)) steps rules moment seats (now (work .entry)) (now (work .exit)) r) ⌝ }
+    requires { ⌜ Seated seats (now work) × (moment .number < 1024) × (length (now wide) ≡ 384) ⌝ }
+    ensures { λ r. ⌜ ((steps : List ℕ) → Wide steps (now (wide .entry)) → TurnOf (now (l .entry)) (now (places .entry)) (now (f .entry)) steps rules moment seats (now (work .entry)) (now (work .exit)) r) ⌝ }
     ensures { λ r. ⌜ Fits (seats .slots) (r .outcome) × (length (now (work .exit)) ≡ length (now (work .entry))) ⌝ }
 {
     let rises = rules.rises;
     let mut table = *wide;
     threads::table::mark_states(&mut table, &work[..], seats, f, wide, rises, moment);
-    one_event(work, seats, f, &table, rules, moment)
+    one_event(work, seats, l, places, f, &table, rules, moment)
 }
 
 // The next event to look at: none any more where nobody waits.
@@ -236,7 +239,7 @@ pub fn search_from(
     start: usize,
     work: &mut [u32],
 ) -> SearchAnswer
-    requires { ⌜ (scope .slots * 192 ≤ length (now work)) × (1 ≤ scope .slots) × (scope .events ≤ 1024) ⌝ }
+    requires { ⌜ (scope .slots * 192 ≤ length (now work)) × (1 ≤ scope .slots) × (scope .events ≤ 1024) × (length (now places) ≡ 1024) ⌝ }
     ensures { λ r. ⌜ SearchedFrom (now (l .entry)) (now (places .entry)) (now (f .entry)) (now (table .entry)) scope start r ⌝ }
     ensures { λ r. ⌜ (r .width ≤ scope .slots) × (length (now (work .exit)) ≡ length (now (work .entry))) ⌝ }
 {
@@ -249,10 +252,10 @@ pub fn search_from(
     let mut width: usize = 0;
     let mut n = start;
     while n < scope.events {
-        let loaded = event_log::event_at(l, scope.fields, places[n]);
+        let loaded = event_log::event_at(l, rules.fields, places[n]);
         let event = loaded.event;
         let seats = Seats { half, count, slots };
-        let turn = at_event(work, seats, f, &wide, rules, moment_of(n, event));
+        let turn = at_event(work, seats, l, places, f, &wide, rules, moment_of(n, event));
         let outcome = turn.outcome;
         match outcome {
             Outcome::Found => return named(turn, rules, width),
@@ -283,9 +286,12 @@ pub fn scope_of(log: LogReading, formula: FormulaReading, slots: usize) -> Scope
     let kinds = formula.kinds;
     let rises = log.rises;
     Scope {
-        fields: log.fields,
         events: log.events,
-        rules: Rules { kinds, rises },
+        rules: Rules {
+            kinds,
+            rises,
+            fields: log.fields,
+        },
         slots,
     }
 }

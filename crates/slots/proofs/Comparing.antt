@@ -11,10 +11,8 @@ use lib.Seq.{drop-cons}
 use Rattle.base.specs.Lists.{sameList}
 use Rattle.runs.specs.inner.Order.{then, lex}
 use Rattle.runs.proofs.Comparison.{compare-self, less-compare}
-use Rattle.machine.specs.Configuration.{same}
 use Rattle.machine_code.specs.declared.Configuration.{Configuration}
-use Rattle.machine_code.specs.inner.Bytes.{configOf}
-use Rattle.slots.specs.inner.Threads.{key}
+use Rattle.slots.specs.inner.Threads.{key, sameWords}
 use Rattle.slots.specs.inner.Words.{isSet, threadOf}
 use borrow.Author.Tests.{eq-eqb, ne-eqb}
 
@@ -86,21 +84,26 @@ module _ (xs ys : List ℕ) (i : ℕ) (o : Ordering) (e : o ≡ lex (drop i xs) 
 
 -- the configuration of words against another, by the first field that differs
 module _ (ws : List ℕ) (c : Configuration) where
-  pub differs-state : (getD ws 0 0 ≡ c .state → ⊥) → false ≡ same (configOf (threadOf ws .config)) (configOf c)
-  unfolding same threadOf
+  pub differs-state : (getD ws 0 0 ≡ c .state → ⊥) → false ≡ sameWords (threadOf ws .config) c
+  unfolding sameWords threadOf
   differs-state h = rw (ne-eqb (getD ws 0 0) (c .state) h)
 
   module _ (state : getD ws 0 0 ≡ c .state) where
-    pub differs-held : sameList Bool·beq (map isSet (take 8 (drop 1 ws))) (c .held) ≡ false → false ≡ same (configOf (threadOf ws .config)) (configOf c)
-    unfolding same threadOf
+    pub differs-held : sameList Bool·beq (map isSet (take 8 (drop 1 ws))) (c .held) ≡ false → false ≡ sameWords (threadOf ws .config) c
+    unfolding sameWords threadOf
     differs-held h = rw (eq-eqb (getD ws 0 0) (c .state) state, h)
 
     module _ (held : sameList Bool·beq (map isSet (take 8 (drop 1 ws))) (c .held) ≡ true) where
-      pub differs-values : sameList eqb (take 8 (drop 9 ws)) (c .values) ≡ false → false ≡ same (configOf (threadOf ws .config)) (configOf c)
-      unfolding same threadOf
+      pub differs-values : sameList eqb (take 8 (drop 9 ws)) (c .values) ≡ false → false ≡ sameWords (threadOf ws .config) c
+      unfolding sameWords threadOf
       differs-values h = rw (eq-eqb (getD ws 0 0) (c .state) state, held, h)
 
-      pub by-counters : sameList eqb (take 8 (drop 9 ws)) (c .values) ≡ true → (r : Bool) → r ≡ sameList eqb (take 16 (drop 17 ws)) (c .counters)
-          → r ≡ same (configOf (threadOf ws .config)) (configOf c)
-      unfolding same threadOf
-      by-counters h r e = rw (eq-eqb (getD ws 0 0) (c .state) state, held, h, e)
+      module _ (values : sameList eqb (take 8 (drop 9 ws)) (c .values) ≡ true) where
+        pub differs-counters : sameList eqb (take 16 (drop 17 ws)) (c .counters) ≡ false → false ≡ sameWords (threadOf ws .config) c
+        unfolding sameWords threadOf
+        differs-counters h = rw (eq-eqb (getD ws 0 0) (c .state) state, held, values, h)
+
+        pub by-tallies : sameList eqb (take 16 (drop 17 ws)) (c .counters) ≡ true → (r : Bool) → r ≡ sameList eqb (take 12 (drop 33 ws)) (c .tallies)
+            → r ≡ sameWords (threadOf ws .config) c
+        unfolding sameWords threadOf
+        by-tallies h r e = rw (eq-eqb (getD ws 0 0) (c .state) state, held, values, h, e)

@@ -23,13 +23,13 @@ module _ (l : List ℕ) (t : Thread) (s : Sized t) where
   pub stored-here : (a : ℕ) → a ≤ length l → threadAt (put l a (wordsOf t)) a ≡ t
   stored-here a h = ap threadOf (drop-put l a (wordsOf t) h) ∙ thread-of-words t (drop (a + length (wordsOf t)) l) s
 
-  stored-before : (a b : ℕ) → a ≤ length l → b + 66 ≤ a → threadAt (put l a (wordsOf t)) b ≡ threadAt l b
+  stored-before : (a b : ℕ) → a ≤ length l → b + 78 ≤ a → threadAt (put l a (wordsOf t)) b ≡ threadAt l b
   stored-before a b h k =
-      sym (thread-take 66 (drop b (put l a (wordsOf t))) (omega arith))
-      ∙ ap threadOf (part-put-before l a (wordsOf t) b 66 h k)
-      ∙ thread-take 66 (drop b l) (omega arith)
+      sym (thread-take 78 (drop b (put l a (wordsOf t))) (omega arith))
+      ∙ ap threadOf (part-put-before l a (wordsOf t) b 78 h k)
+      ∙ thread-take 78 (drop b l) (omega arith)
 
-  stored-behind : (a b : ℕ) → a ≤ length l → a + 66 ≤ b → threadAt (put l a (wordsOf t)) b ≡ threadAt l b
+  stored-behind : (a b : ℕ) → a ≤ length l → a + 78 ≤ b → threadAt (put l a (wordsOf t)) b ≡ threadAt l b
   stored-behind a b h k =
       let n = words-length t s in
       ap threadOf (drop-put-behind l a (wordsOf t) b h (omega arith))
@@ -72,14 +72,6 @@ module _ (l : List ℕ) (t : Thread) (s : Sized t) where
         rw (here, threads-elsewhere half (suc k) n (λ i p g z. omega arith))
     threads-stored k (suc n) (suc m) e h =
         rw (stored-elsewhere half slot half k fits (λ z. omega arith), threads-stored (suc k) n m (omega arith) (omega arith))
-
--- the first of the slots, and the rest
-pub threads-next : (half i count : ℕ) (l : List ℕ) → i < count
-    → threadsFrom half i (count - i) l ≡ threadAt l (place half i) ∷ threadsFrom half (i + 1) (count - (i + 1)) l
-unfolding threadsFrom
-threads-next half i count l h =
-    let e : count - i ≡ suc (count - (i + 1)) = omega arith in
-    rw (e, add-one i)
 
 -- one slot more, at the end
 threads-last : (half k n m : ℕ) (l : List ℕ) → m ≡ k + n → threadsFrom half k (suc n) l ≡ threadsFrom half k n l ++ (threadAt l (place half m) ∷ [])

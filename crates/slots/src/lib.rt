@@ -9,10 +9,8 @@ ghost use lib.ListN.{length, getD, drop};
 ghost use Rattle.runs.specs.inner.Order.{lex, order};
 ghost use Rattle.base.specs.Lists.{sameList};
 ghost use Rattle.base.specs.Mask.{bit};
-ghost use Rattle.machine.specs.Configuration.{same};
-ghost use Rattle.machine_code.specs.inner.Bytes.{configOf};
-ghost use Rattle.slots.specs.inner.Threads.{originThread, trailOf, comesAfter, Extended, key, sideOf, greaterOf, position};
-ghost use Rattle.slots.specs.inner.Words.{isSet, wordsOf, threadOf, threadAt, put, place, list, Inserted};
+ghost use Rattle.slots.specs.inner.Threads.{originThread, trailOf, sameWords, comesAfter, Extended, key, sideOf, greaterOf};
+ghost use Rattle.slots.specs.inner.Words.{isSet, wordsOf, threadOf, threadAt, put, place, FoundFrom, InsertedAt};
 
 // A configuration with its trail: the number of steps taken and, for each of them, event * 8 + step number.
 pub struct Thread {
@@ -30,6 +28,7 @@ pub fn origin() -> Thread
         held: [false; 8],
         values: [0u32; 8],
         counters: [0u32; 16],
+        tallies: [0u32; 12],
     };
     Thread {
         config,
@@ -86,7 +85,7 @@ fn flags_of(part: &[u32]) -> [bool; 8]
 
 // The thread that a half's words hold.
 pub fn load(part: &[u32]) -> Thread
-    requires { ⌜ 66 ≤ length (now part) ⌝ }
+    requires { ⌜ 78 ≤ length (now part) ⌝ }
     ensures { λ r. ⌜ r ≡ threadOf (now (part .entry)) ⌝ }
 {
     let held = flags_of(&part[1..9]);
@@ -94,38 +93,43 @@ pub fn load(part: &[u32]) -> Thread
     write(&mut values, 0, &part[9..17]);
     let mut counters = [0u32; 16];
     write(&mut counters, 0, &part[17..33]);
+    let mut tallies = [0u32; 12];
+    write(&mut tallies, 0, &part[33..45]);
     let mut trail = [0u32; 32];
-    write(&mut trail, 0, &part[34..66]);
+    write(&mut trail, 0, &part[46..78]);
     let config = Configuration {
         state: part[0],
         held,
         values,
         counters,
+        tallies,
     };
     Thread {
         config,
-        steps: part[33],
+        steps: part[45],
         trail,
     }
 }
 
-// Writes a thread over a half's first 66 words.
+// Writes a thread over a half's first 78 words.
 pub fn store(part: &mut [u32], t: Thread)
-    requires { ⌜ 66 ≤ length (now part) ⌝ }
-    ensures { λ _. ⌜ now (part .exit) ≡ wordsOf t ++ drop 66 (now (part .entry)) ⌝ }
+    requires { ⌜ 78 ≤ length (now part) ⌝ }
+    ensures { λ _. ⌜ now (part .exit) ≡ wordsOf t ++ drop 78 (now (part .entry)) ⌝ }
 {
     let c = t.config;
     let held = c.held;
     let flags = flag_words(held);
     let values = c.values;
     let counters = c.counters;
+    let tallies = c.tallies;
     let trail = t.trail;
     part[0] = c.state;
     write(part, 1, &flags);
     write(part, 9, &values);
     write(part, 17, &counters);
-    part[33] = t.steps;
-    write(part, 34, &trail);
+    write(part, 33, &tallies);
+    part[45] = t.steps;
+    write(part, 46, &trail);
 }
 
 // Where a half of a slot begins. Here alone stands the arithmetic of slots.
@@ -166,7 +170,7 @@ pub fn store_slot(work: &mut [u32], slot: usize, half: usize, t: Thread)
 }
 
 // Whether two parts hold the same words.
-fn same_words(part: &[u32], words: &[u32]) -> bool
+pub fn same_words(part: &[u32], words: &[u32]) -> bool
     requires { ⌜ length (now words) ≡ length (now part) ⌝ }
     ensures { λ r. ⌜ r ≡ sameList eqb (now (part .entry)) (now (words .entry)) ⌝ }
 {
@@ -203,10 +207,10 @@ fn same_flags(part: &[u32], held: [bool; 8]) -> bool
     true
 }
 
-// Whether a half's words hold a configuration; the trail is not looked at.
+// Whether a half's words hold a configuration's; the trail is not looked at.
 fn same_at(part: &[u32], c: Configuration) -> bool
-    requires { ⌜ 66 ≤ length (now part) ⌝ }
-    ensures { λ r. ⌜ r ≡ same (configOf ((threadOf (now (part .entry))) .config)) (configOf c) ⌝ }
+    requires { ⌜ 78 ≤ length (now part) ⌝ }
+    ensures { λ r. ⌜ r ≡ sameWords ((threadOf (now (part .entry))) .config) c ⌝ }
 {
     if part[0] != c.state {
         return false;
@@ -220,7 +224,11 @@ fn same_at(part: &[u32], c: Configuration) -> bool
         return false;
     }
     let counters = c.counters;
-    same_words(&part[17..33], &counters)
+    if !same_words(&part[17..33], &counters) {
+        return false;
+    }
+    let tallies = c.tallies;
+    same_words(&part[33..45], &tallies)
 }
 
 // What a trail word is compared by: its event, or its step number.
@@ -303,12 +311,12 @@ pub fn with_step(t: Thread, event: u32, number: u32) -> Thread
     next
 }
 
-// The first of the threads with a configuration; their count where there is none.
-fn find(work: &[u32], half: usize, count: usize, c: Configuration) -> usize
-    requires { ⌜ (count * 192 ≤ length (now work)) × (half < 2) ⌝ }
-    ensures { λ r. ⌜ r ≡ position c (list half count (now (work .entry))) ⌝ }
+// The first of the threads from one on whose words hold a configuration's; the count of the threads where there is none.
+pub fn find_from(work: &[u32], half: usize, count: usize, from: usize, c: Configuration) -> usize
+    requires { ⌜ (count * 192 ≤ length (now work)) × (half < 2) × (from ≤ count) ⌝ }
+    ensures { λ r. ⌜ FoundFrom half count from c (now (work .entry)) r ⌝ }
 {
-    let mut i: usize = 0;
+    let mut i = from;
     while i < count {
         let a = offset(i, half);
         let e = a + 96;
@@ -320,14 +328,20 @@ fn find(work: &[u32], half: usize, count: usize, c: Configuration) -> usize
     count
 }
 
-// Inserts a thread into the list of one half: where a thread has its configuration the lesser trail is kept, else it is
-// appended; without room every word stays. The count of the list then, one more than the slots where there is no room.
-pub fn insert(work: &mut [u32], half: usize, count: usize, slots: usize, b: Thread) -> usize
+// Inserts a thread into the list of one half: of it and the thread at a place of the list the lesser trail is kept; where the
+// place is past the list it is appended; without room every word stays. The count of the list then, one more than the slots
+// where there is no room.
+pub fn insert_at(
+    work: &mut [u32],
+    half: usize,
+    count: usize,
+    slots: usize,
+    at: usize,
+    b: Thread,
+) -> usize
     requires { ⌜ (slots * 192 ≤ length (now work)) × (half < 2) × (count ≤ slots) ⌝ }
-    ensures { λ r. ⌜ Inserted half count slots b (now (work .entry)) (now (work .exit)) r ⌝ }
+    ensures { λ r. ⌜ InsertedAt half count slots at b (now (work .entry)) (now (work .exit)) r ⌝ }
 {
-    let config = b.config;
-    let at = find(&work[..], half, count, config);
     if at < count {
         let a = load_slot(&work[..], at, half);
         if later(a, b) {

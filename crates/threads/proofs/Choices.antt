@@ -12,10 +12,9 @@ use Rattle.runs.proofs.Moves.{firing-quiet}
 use Rattle.runs.proofs.Growth.{firing-fires, moves-ordinary, moves-quiet, moves-lowest, leaves}
 use Rattle.machine.specs.Machine.{machine, fireAt, committed}
 use Rattle.machine.specs.Configuration.{Config}
-use Rattle.machine_code.specs.inner.Bytes.{configOf}
 use Rattle.slots.specs.declared.Thread.{Thread}
 use Rattle.slots.specs.inner.Threads.{trailOf}
-use Rattle.threads.specs.inner.Setting.{Fit, thread}
+use Rattle.threads.specs.inner.Setting.{Fit, conf, thread}
 use Rattle.machine_code.proofs.SameMachine as Code
 use Rattle.machine_code.proofs.SameMachine.{isFired}
 use Rattle.threads.specs.inner.Calls.{Fires, Lowest, Chosen}
@@ -24,50 +23,50 @@ use Rattle.threads.proofs.Steps.{begun-steps}
 module _ (g : Log) (fm : Formula) (t : Thread) (n : ℕ) where
   -- ---- the lowest step that fires
 
-  silent : (k : ℕ) → isFired (fireAt g fm (configOf (t .config)) n k) ≡ false → fireAt g fm (configOf (t .config)) n k ≡ none
-  silent k e = by (fireAt g fm (configOf (t .config)) n k) e
+  silent : (k : ℕ) → isFired (fireAt g fm (conf g fm t) n k) ≡ false → fireAt g fm (conf g fm t) n k ≡ none
+  silent k e = by (fireAt g fm (conf g fm t) n k) e
     where
       by : (o : Option Config) → isFired o ≡ false → o ≡ none
       by none q = refl
       by (some d) q = absurd (true≢false q)
 
-  firing : (k : ℕ) → isFired (fireAt g fm (configOf (t .config)) n k) ≡ true → Fires g fm (configOf (t .config)) n k
-  firing k e = by (fireAt g fm (configOf (t .config)) n k) refl e
+  firing : (k : ℕ) → isFired (fireAt g fm (conf g fm t) n k) ≡ true → Fires g fm (conf g fm t) n k
+  firing k e = by (fireAt g fm (conf g fm t) n k) refl e
     where
-      by : (o : Option Config) → fireAt g fm (configOf (t .config)) n k ≡ o → isFired o ≡ true → Fires g fm (configOf (t .config)) n k
+      by : (o : Option Config) → fireAt g fm (conf g fm t) n k ≡ o → isFired o ≡ true → Fires g fm (conf g fm t) n k
       by none q x = absurd (false≢true x)
       by (some d) q x = record { left = d; is = q }
 
-  pub lowest-found : (k : ℕ) → Code.Lowest (λ j. isFired (fireAt g fm (configOf (t .config)) n j)) k → Lowest g fm (configOf (t .config)) n k
+  pub lowest-found : (k : ℕ) → Code.Lowest (λ j. isFired (fireAt g fm (conf g fm t) n j)) k → Lowest g fm (conf g fm t) n k
   lowest-found k low = record { quiet = λ j l. silent j (low .before j l); fires = λ l. firing k (low .here l) }
 
   -- ---- what may be taken
 
-  module _ (h : Fit fm t) where
-    pub ordinary-choice : committed fm (configOf (t .config)) ≡ false → Chosen g fm t n (record { from = 0; to = 8; stays = ltb 0 (t .steps) })
+  module _ (h : Fit g fm t) where
+    pub ordinary-choice : committed fm (conf g fm t) ≡ false → Chosen g fm t n (record { from = 0; to = 8; stays = ltb 0 (t .steps) })
     unfolding Runs.stays
     ordinary-choice e =
         record {
           moves-are = moves-ordinary (machine g fm) n (thread g fm t) e;
           stays-is =
-              begun-steps fm t h ∙ sym (and-true (Runs.begun (trailOf t)))
+              begun-steps g fm t h ∙ sym (and-true (Runs.begun (trailOf t)))
               ∙ ap (λ b. Runs.begun (trailOf t) && Runs.passesOver (machine g fm) b (Runs.firing (machine g fm) (thread g fm t) n 0 8)) (sym e);
         }
 
-    pub quiet-choice : committed fm (configOf (t .config)) ≡ true → Lowest g fm (configOf (t .config)) n 8
+    pub quiet-choice : committed fm (conf g fm t) ≡ true → Lowest g fm (conf g fm t) n 8
         → Chosen g fm t n (record { from = 8; to = 8; stays = ltb 0 (t .steps) })
     unfolding Runs.stays Runs.firing
     quiet-choice e low =
         record {
           moves-are = moves-quiet (machine g fm) n (thread g fm t) (low .quiet);
           stays-is =
-              begun-steps fm t h ∙ sym (and-true (Runs.begun (trailOf t)))
+              begun-steps g fm t h ∙ sym (and-true (Runs.begun (trailOf t)))
               ∙ ap (λ l. Runs.begun (trailOf t) && Runs.passesOver (machine g fm) true l)
               (sym (firing-quiet (machine g fm) (thread g fm t) n 0 8 (λ j p l. low .quiet j l)))
               ∙ ap (λ b. Runs.begun (trailOf t) && Runs.passesOver (machine g fm) b (Runs.firing (machine g fm) (thread g fm t) n 0 8)) (sym e);
         }
 
-    pub lowest-choice : (k : ℕ) → committed fm (configOf (t .config)) ≡ true → k < 8 → Lowest g fm (configOf (t .config)) n k
+    pub lowest-choice : (k : ℕ) → committed fm (conf g fm t) ≡ true → k < 8 → Lowest g fm (conf g fm t) n k
         → Chosen g fm t n (record { from = k; to = k + 1; stays = false })
     unfolding Runs.firing
     lowest-choice k e l low =

@@ -8,19 +8,18 @@ use native.Mathlib.Omega.{arith}
 use lib.ListN.{drop}
 use Rattle.event_log.specs.Log.{Log}
 use Rattle.formula.specs.Formula.{Formula}
-use Rattle.runs.specs.inner.Lists.{keep, gather}
+use Rattle.runs.specs.inner.Lists.{keep, inTurn}
 use Rattle.runs.specs.inner.Order.{order}
 use Rattle.runs.specs.inner.Search as Runs
 use Rattle.runs.proofs.Growth.{keep-append, least-append, ending-final, ending-open}
 use Rattle.machine.specs.Configuration.{Config}
 use Rattle.machine.specs.Machine.{machine, fireAt, final}
-use Rattle.machine_code.specs.inner.Bytes.{configOf}
 use Rattle.slots.specs.declared.Thread.{Thread}
 use Rattle.slots.specs.inner.Threads.{trailOf, comesAfter}
 use Rattle.slots.specs.inner.Words.{threadAt, place}
 use Rattle.threads.specs.declared.Best.{Best}
 use Rattle.threads.specs.declared.Move.{Move}
-use Rattle.threads.specs.inner.Setting.{Fit, thread}
+use Rattle.threads.specs.inner.Setting.{Fit, conf, thread}
 use Rattle.threads.specs.inner.Event.{bestBy, bestOf, waitingIn}
 use Rattle.threads.specs.inner.Calls.{MovedBy, BestFits, Improved, moveBy}
 use Rattle.threads.proofs.Firing.{firing-next}
@@ -29,39 +28,39 @@ use Rattle.threads.proofs.Listed.{waiting-next, waiting-done}
 module _ (g : Log) (fm : Formula) where
   -- nothing more ends: the best so far stays
   improved-same : (best : Best) (xs : List (Runs.Thread (machine g fm)))
-      → Runs.leastFrom (machine g fm) (bestOf g fm best) (keep (Runs.ended (machine g fm)) xs) ≡ bestOf g fm best → BestFits fm best
+      → Runs.leastFrom (machine g fm) (bestOf g fm best) (keep (Runs.ended (machine g fm)) xs) ≡ bestOf g fm best → BestFits g fm best
       → Improved g fm best xs best
   improved-same best xs e h = record { least = sym e; fits = h }
 
-  pub improved-none : (best : Best) → BestFits fm best → Improved g fm best [] best
+  pub improved-none : (best : Best) → BestFits g fm best → Improved g fm best [] best
   unfolding Runs.leastFrom keep
   improved-none best h = improved-same best [] refl h
 
   -- a step that leads to an open state ends nothing
-  pub better-past : (best : Best) → BestFits fm best → (t : Thread) (n k : ℕ)
-      → ((d : Config) → fireAt g fm (configOf (t .config)) n k ≡ some d → final fm d ≡ false) → Improved g fm best (moveBy g fm t n k) best
-  better-past best ok t n k o = by (fireAt g fm (configOf (t .config)) n k) refl
+  pub better-past : (best : Best) → BestFits g fm best → (t : Thread) (n k : ℕ)
+      → ((d : Config) → fireAt g fm (conf g fm t) n k ≡ some d → final fm d ≡ false) → Improved g fm best (moveBy g fm t n k) best
+  better-past best ok t n k o = by (fireAt g fm (conf g fm t) n k) refl
     where
-      by : (x : Option Config) → fireAt g fm (configOf (t .config)) n k ≡ x → Improved g fm best (Runs.arrive (machine g fm) (thread g fm t) n k x []) best
+      by : (x : Option Config) → fireAt g fm (conf g fm t) n k ≡ x → Improved g fm best (Runs.arrive (machine g fm) (thread g fm t) n k x []) best
       by none e = improved-none best ok
       by (some d) e = improved-same best _ (ending-open (machine g fm) (bestOf g fm best) _ [] (o d e) ∙ sym (improved-none best ok .least)) ok
 
-  module _ (best : Best) (ok : BestFits fm best) (t : Thread) (n k : ℕ) (m : Move) (h : MovedBy g fm (fireAt g fm (configOf (t .config)) n k) t n k m) where
+  module _ (best : Best) (ok : BestFits g fm best) (t : Thread) (n k : ℕ) (m : Move) (h : MovedBy g fm (fireAt g fm (conf g fm t) n k) t n k m) where
     -- the step does not fire
     pub better-silent : m .fires ≡ false → Improved g fm best (moveBy g fm t n k) best
     unfolding Runs.leastFrom keep
-    better-silent e = by (fireAt g fm (configOf (t .config)) n k) h
+    better-silent e = by (fireAt g fm (conf g fm t) n k) h
       where
         by : (o : Option Config) → MovedBy g fm o t n k m → Improved g fm best (Runs.arrive (machine g fm) (thread g fm t) n k o []) best
         by none x = improved-same best [] refl ok
         by (some d) x = absurd (false≢true (sym e ∙ x .fires))
 
     -- it ends a run: the lesser of the two is the best
-    better-final : m .fires ≡ true → final fm (configOf (m .thread .config)) ≡ true → (r : Best)
-        → bestOf g fm r ≡ some (Runs.lesser (machine g fm) (bestOf g fm best) (thread g fm (m .thread))) → (Fit fm (m .thread) → BestFits fm r)
+    better-final : m .fires ≡ true → final fm (conf g fm (m .thread)) ≡ true → (r : Best)
+        → bestOf g fm r ≡ some (Runs.lesser (machine g fm) (bestOf g fm best) (thread g fm (m .thread))) → (Fit g fm (m .thread) → BestFits g fm r)
         → Improved g fm best (moveBy g fm t n k) r
     unfolding Runs.leastFrom keep
-    better-final e o r q w = by (fireAt g fm (configOf (t .config)) n k) h
+    better-final e o r q w = by (fireAt g fm (conf g fm t) n k) h
       where
         by : (o : Option Config) → MovedBy g fm o t n k m → Improved g fm best (Runs.arrive (machine g fm) (thread g fm t) n k o []) r
         by none x = absurd (true≢false (sym e ∙ x))
@@ -69,7 +68,7 @@ module _ (g : Log) (fm : Formula) where
             subst (λ (y : Runs.Thread (machine g fm)). Improved g fm best (y ∷ []) r) (x .is)
             (record { least = q ∙ sym (ending-final (machine g fm) (bestOf g fm best) (thread g fm (m .thread)) [] o); fits = w (x .fit) })
 
-    module _ (e : m .fires ≡ true) (o : final fm (configOf (m .thread .config)) ≡ true) where
+    module _ (e : m .fires ≡ true) (o : final fm (conf g fm (m .thread)) ≡ true) where
       -- the first run that ends
       pub better-first : best .found ≡ false → Improved g fm best (moveBy g fm t n k) (record { found = true; thread = m .thread })
       unfolding Runs.lesser
@@ -127,7 +126,7 @@ module _ (g : Log) (fm : Formula) where
   pub improved-done : (best from : Best) (t : Thread) (n k s : ℕ) (xs : List (Runs.Thread (machine g fm))) → s ≤ k
       → Runs.leastFrom (machine g fm) (bestOf g fm from) (keep (Runs.ended (machine g fm)) xs)
       ≡ Runs.leastFrom (machine g fm) (bestOf g fm best) (keep (Runs.ended (machine g fm)) (Runs.firing (machine g fm) (thread g fm t) n k (s - k)))
-      → BestFits fm best → Improved g fm from xs best
+      → BestFits g fm best → Improved g fm from xs best
   unfolding Runs.leastFrom Runs.firing keep
   improved-done best from t n k s xs l e h =
       let none-left : s - k ≡ 0 = omega arith in
@@ -144,7 +143,7 @@ module _ (g : Log) (fm : Formula) where
       (e : whole ≡ Runs.leastFrom (machine g fm) (bestOf g fm best) (Runs.endings (machine g fm) n (drop j (waitingIn g fm half count l)))) where
     pub ending-next : (t : Thread) (r : Best) → j < count → t ≡ threadAt l (place half j) → Improved g fm best (Runs.moves (machine g fm) n (thread g fm t)) r
         → whole ≡ Runs.leastFrom (machine g fm) (bestOf g fm r) (Runs.endings (machine g fm) n (drop (j + 1) (waitingIn g fm half count l)))
-    unfolding Runs.endings gather
+    unfolding Runs.endings inTurn
     ending-next t r h q i =
         let M = machine g fm in
         let rest = drop (j + 1) (waitingIn g fm half count l) in
@@ -153,5 +152,5 @@ module _ (g : Log) (fm : Formula) where
         ∙ ap (λ b. Runs.leastFrom M b (Runs.endings M n rest)) (sym (i .least))
 
     pub ending-done : count ≤ j → bestOf g fm best ≡ whole
-    unfolding Runs.endings Runs.leastFrom gather
+    unfolding Runs.endings Runs.leastFrom inTurn
     ending-done h = sym (e ∙ ap (λ z. Runs.leastFrom (machine g fm) (bestOf g fm best) (Runs.endings (machine g fm) n z)) (waiting-done g fm half count l j h))

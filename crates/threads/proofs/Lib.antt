@@ -8,6 +8,8 @@ pub mod Steps
 pub mod Firing
 pub mod Choices
 pub mod Listed
+pub mod Lists
+pub mod Same
 pub mod Inserting
 pub mod Endings
 pub mod Waiting

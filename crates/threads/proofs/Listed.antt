@@ -18,12 +18,13 @@ use Rattle.threads.specs.inner.Calls.{Going, Grown}
 use Rattle.slots.proofs.Slots.{threads-length, thread-at}
 
 -- a kept list's thread has room for one step more
-pub kept-at : (fm : Formula) (half count : ℕ) (l : List ℕ) (j : ℕ) (t : Thread) → Kept fm half count l → j < count → t ≡ threadAt l (place half j) → Going fm t
-kept-at fm half count l j t k h e =
+pub kept-at : (g : Log) (fm : Formula) (half count : ℕ) (l : List ℕ) (j : ℕ) (t : Thread) → Kept g fm half count l → j < count → t ≡ threadAt l (place half j)
+    → Going g fm t
+kept-at g fm half count l j t k h e =
     let q : getD (list half count l) j t ≡ t = thread-at half 0 count l j j t (omega arith) h ∙ sym e in
     let n : j < length (list half count l) = omega (arith, threads-length half 0 count l) in
     record {
-      fit = subst (Fit fm) q (All-at (Fit fm) (list half count l) j t (k .fit) n);
+      fit = subst (Fit g fm) q (All-at (Fit g fm) (list half count l) j t (k .fit) n);
       short = subst (λ (x : Thread). x .steps < 32) q (All-at (λ (x : Thread). x .steps < 32) (list half count l) j t (k .short) n);
     }
 

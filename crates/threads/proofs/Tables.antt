@@ -2,7 +2,7 @@
 -- or is expired after it, in any configuration.
 use Prim.Native.Nat.{ℕ, zero, suc, _+_, _*_, _<_, _≤_}
 use mathlib.Core.Path.{_≡_, refl, sym, subst, _∙_}
-use mathlib.Core.Bool.{Bool, false, cond, not, _&&_, _||_, and-false, or-true, true≢false}
+use mathlib.Core.Bool.{Bool, false, not, _&&_, _||_, and-false, or-true, true≢false}
 use mathlib.Core.List.{List}
 use mathlib.Core.Option.{Option, none, some}
 use native.Mathlib.Omega.{arith}
@@ -15,14 +15,18 @@ use Rattle.runs.specs.inner.Search.{anyAlive}
 use Rattle.machine.specs.Configuration.{Config}
 use Rattle.machine.specs.Machine.{machine, fireAt}
 use Rattle.slots.specs.declared.Thread.{Thread}
-use Rattle.machine_code.specs.inner.Bytes.{fired, lapsed, configOf, offsetOf, isStep, firesAt, expiresAt, lowestFrom, lowestOf, aliveBelow}
+use Rattle.machine_code.specs.inner.Bytes.{fired, lapsed, offsetOf, isStep, firesAt, expiresAt, lowestFrom, lowestOf, aliveBelow}
 use Rattle.machine_code.proofs.StepsByNumber.{offset-in, step-none}
 use Rattle.machine_code.proofs.FiringOnBytes.{Ready}
 use Rattle.machine_code.proofs.SameMachine.{Lowest, isFired, fires-machine, hopeful-machine, lowest-machine}
-use Rattle.machine_code.specs.declared.Fired.{Fired}
+use Rattle.machine.specs.inner.Along.{gathered, IsFresh}
+use Rattle.slots.specs.inner.Threads.{trailOf}
+use Rattle.threads.specs.declared.Move.{Move}
+use Rattle.threads.specs.inner.Calls.{FiredBy}
 use Rattle.threads.specs.declared.Rules.{Rules}
 use Rattle.threads.specs.declared.Moment.{Moment}
-use Rattle.threads.specs.inner.Setting.{Scene, Fit, Firing, stands, barred, Lasting, lasts, due}
+use Rattle.threads.specs.inner.Setting.{Scene, Fit, conf, Firing, stands, barred, Lasting, lasts, due}
+use Rattle.threads.proofs.Lists.{someFresh, some-fresh, carries}
 use Rattle.threads.proofs.Charts as Base
 use Rattle.threads.proofs.Charts.{charted, marks, event-fields, latest-fields, ready-of}
 
@@ -37,7 +41,8 @@ unfolding aliveBelow
 alive-same p q zero l h = refl
 alive-same p q (suc m) l h = rw (h m (omega arith), alive-same p q m (omega arith) h)
 
-module _ (g : Log) (fm : Formula) (f table : List ℕ) (rules : Rules) (m : Moment) (s : Scene g fm f table rules m) (t : Thread) (w : Fit fm t) where
+module _ (g : Log) (fm : Formula) {l places : List ℕ} (f table : List ℕ) (rules : Rules) (m : Moment) (s : Scene g fm l places f table rules m) (t : Thread)
+    (w : Fit g fm t) where
   entry : (k : ℕ) → k < 8 → Firing f (m .event .values) (offsetOf (stepTable fm) (t .config .state) k) (offsetOf table (t .config .state) k)
   entry k h =
       rw (← offset-in (stepTable fm) (t .config .state) k h, ← offset-in table (t .config .state) k h)
@@ -55,67 +60,78 @@ module _ (g : Log) (fm : Formula) (f table : List ℕ) (rules : Rules) (m : Mome
       (s .offsets .lapses (t .config .state * 8 + k) (omega (arith, w .valid .declared, s .setting .formula .states)))
 
   ready : Ready (t .config)
-  ready = ready-of fm t w (s .setting .formula .states)
+  ready = ready-of g fm t w (s .setting .formula .states)
 
-  fires-same : (k : ℕ) → k < 8 → firesAt f table (t .config) (m .event .values) k ≡ firesAt f (stepTable fm) (t .config) (m .event .values) k
+  fires-same : (fresh : List Bool) (k : ℕ) → k < 8
+      → firesAt f table (t .config) fresh (m .event .values) k ≡ firesAt f (stepTable fm) (t .config) fresh (m .event .values) k
   unfolding firesAt
-  fires-same k h = go (offsetOf (stepTable fm) (t .config .state) k) (offsetOf table (t .config .state) k) (entry k h)
+  fires-same fresh k h = go (offsetOf (stepTable fm) (t .config .state) k) (offsetOf table (t .config .state) k) (entry k h)
     where
       go : (at now : ℕ) → Firing f (m .event .values) at now
-          → (isStep f now && (fired f now (t .config) (m .event .values)) .fires) ≡ (isStep f at && (fired f at (t .config) (m .event .values)) .fires)
+          → (isStep f now && (fired f now (t .config) fresh (m .event .values)) .fires)
+          ≡ (isStep f at && (fired f at (t .config) fresh (m .event .values)) .fires)
       go at now (stands q) = rw q
-      go at now (barred q b) = rw (← step-none f now q, b (t .config), and-false (isStep f at))
+      go at now (barred q b) = rw (← step-none f now q, b fresh (t .config), and-false (isStep f at))
 
-  expires-same : (k : ℕ) → k < 8
-      → expiresAt f (drop 128 table) (t .config) (rules .rises) (m .latest .values) k
-      ≡ expiresAt f (stepTable fm) (t .config) (rules .rises) (m .latest .values) k
+  expires-same : (fresh : List Bool) (k : ℕ) → k < 8
+      → expiresAt f (drop 128 table) (t .config) fresh (rules .rises) (m .latest .values) k
+      ≡ expiresAt f (stepTable fm) (t .config) fresh (rules .rises) (m .latest .values) k
   unfolding expiresAt
-  expires-same k h = go (offsetOf (stepTable fm) (t .config .state) k) (offsetOf (drop 128 table) (t .config .state) k) (entry-behind k h)
+  expires-same fresh k h = go (offsetOf (stepTable fm) (t .config .state) k) (offsetOf (drop 128 table) (t .config .state) k) (entry-behind k h)
     where
       go : (at now : ℕ) → Lasting f (rules .rises) (m .latest .values) at now
-          → (not (isStep f now) || lapsed f now (t .config) (rules .rises) (m .latest .values))
-          ≡ (not (isStep f at) || lapsed f at (t .config) (rules .rises) (m .latest .values))
+          → (not (isStep f now) || lapsed f now (t .config) fresh (rules .rises) (m .latest .values))
+          ≡ (not (isStep f at) || lapsed f at (t .config) fresh (rules .rises) (m .latest .values))
       go at now (lasts q) = rw q
-      go at now (due q b) = rw (← step-none f now q, b (t .config), or-true (not (isStep f at)))
+      go at now (due q b) = rw (← step-none f now q, b fresh (t .config), or-true (not (isStep f at)))
 
   -- what fires by the event's table fires in the machine
-  fires-here : (k : ℕ) → k < 8 → firesAt f table (t .config) (m .event .values) k ≡ isFired (fireAt g fm (configOf (t .config)) (m .number) k)
-  fires-here k h =
-      fires-same k h
-      ∙ fires-machine g fm (length (g .fields)) (length (fm .states)) f (stepTable fm) (charted g fm f (stepTable fm) rules (s .setting)) (t .config) ready
-      (m .number) (m .event .values) (event-fields g fm f (stepTable fm) rules (s .setting) m (s .loads)) k h
+  fires-here : (fresh : List Bool) → IsFresh (gathered g fm (trailOf t)) (m .event .values) fresh → (k : ℕ) → k < 8
+      → firesAt f table (t .config) fresh (m .event .values) k ≡ isFired (fireAt g fm (conf g fm t) (m .number) k)
+  fires-here fresh new k h =
+      fires-same fresh k h
+      ∙ fires-machine g fm (length (g .fields)) (length (fm .states)) f (stepTable fm) (charted g fm f (stepTable fm) rules (s .setting))
+      (gathered g fm (trailOf t)) (t .config) ready (m .number) fresh (m .event .values) (carries g fm f table rules m s t w (m .event .values) fresh new)
+      (event-fields g fm f (stepTable fm) rules (s .setting) m (s .loads)) k h
 
   -- the lowest step that fires by it is the machine's
-  pub lowest-here : Lowest (λ k. isFired (fireAt g fm (configOf (t .config)) (m .number) k)) (lowestOf (firesAt f table (t .config) (m .event .values)))
+  pub lowest-here : (fresh : List Bool) → IsFresh (gathered g fm (trailOf t)) (m .event .values) fresh
+      → Lowest (λ k. isFired (fireAt g fm (conf g fm t) (m .number) k)) (lowestOf (firesAt f table (t .config) fresh (m .event .values)))
   unfolding lowestOf
-  lowest-here =
-      let low = lowest-machine g fm (length (g .fields)) (length (fm .states)) f (stepTable fm) (charted g fm f (stepTable fm) rules (s .setting)) (t .config)
-      ready (m .number) (m .event .values) (event-fields g fm f (stepTable fm) rules (s .setting) m (s .loads)) in
-      subst (Lowest (λ k. isFired (fireAt g fm (configOf (t .config)) (m .number) k)))
-      (sym (lowest-same (firesAt f table (t .config) (m .event .values)) (firesAt f (stepTable fm) (t .config) (m .event .values)) 0 8 refl fires-same))
+  lowest-here fresh new =
+      let low = lowest-machine g fm (length (g .fields)) (length (fm .states)) f (stepTable fm) (charted g fm f (stepTable fm) rules (s .setting))
+      (gathered g fm (trailOf t)) (t .config) ready (m .number) fresh (m .event .values) (carries g fm f table rules m s t w (m .event .values) fresh new)
+      (event-fields g fm f (stepTable fm) rules (s .setting) m (s .loads)) in
+      subst (Lowest (λ k. isFired (fireAt g fm (conf g fm t) (m .number) k)))
+      (sym
+      (lowest-same (firesAt f table (t .config) fresh (m .event .values)) (firesAt f (stepTable fm) (t .config) fresh (m .event .values)) 0 8 refl (fires-same fresh)))
       low
 
   -- some step is not expired by it exactly where the machine has one
-  pub hopeful-here : aliveBelow (expiresAt f (drop 128 table) (t .config) (rules .rises) (m .latest .values)) 8
-      ≡ anyAlive (machine g fm) (configOf (t .config)) (m .number) 8
-  hopeful-here =
-      alive-same (expiresAt f (drop 128 table) (t .config) (rules .rises) (m .latest .values))
-      (expiresAt f (stepTable fm) (t .config) (rules .rises) (m .latest .values)) 8 (omega arith) expires-same
-      ∙ hopeful-machine g fm (length (g .fields)) (length (fm .states)) f (stepTable fm) (charted g fm f (stepTable fm) rules (s .setting)) (t .config) ready
-      (m .number) (m .latest .values) (latest-fields g fm f (stepTable fm) rules (s .setting) m (s .loads)) (rules .rises)
+  pub hopeful-here : (fresh : List Bool) → IsFresh (gathered g fm (trailOf t)) (m .latest .values) fresh
+      → aliveBelow (expiresAt f (drop 128 table) (t .config) fresh (rules .rises) (m .latest .values)) 8
+      ≡ anyAlive (machine g fm) (conf g fm t) (m .number) 8
+  hopeful-here fresh new =
+      alive-same (expiresAt f (drop 128 table) (t .config) fresh (rules .rises) (m .latest .values))
+      (expiresAt f (stepTable fm) (t .config) fresh (rules .rises) (m .latest .values)) 8 (omega arith) (expires-same fresh)
+      ∙ hopeful-machine g fm (length (g .fields)) (length (fm .states)) f (stepTable fm) (charted g fm f (stepTable fm) rules (s .setting))
+      (gathered g fm (trailOf t)) (t .config) ready (m .number) fresh (m .latest .values) (carries g fm f table rules m s t w (m .latest .values) fresh new)
+      (latest-fields g fm f (stepTable fm) rules (s .setting) m (s .loads)) (rules .rises)
       (marks g fm f (stepTable fm) rules (s .setting))
 
   module _ (k : ℕ) (h : k < 8) where
-    -- what the code answers for the step
-    abbrev answer : Fired
-    answer = fired f (offsetOf table (t .config .state) k) (t .config) (m .event .values)
-
     -- a step that the event's table lacks does not fire
-    pub fires-none : offsetOf table (t .config .state) k ≡ 0 → fireAt g fm (configOf (t .config)) (m .number) k ≡ none
+    pub fires-none : offsetOf table (t .config .state) k ≡ 0 → fireAt g fm (conf g fm t) (m .number) k ≡ none
     unfolding firesAt
-    fires-none z = by (fireAt g fm (configOf (t .config)) (m .number) k) (sym (fires-here k h) ∙ quiet)
+    fires-none z =
+        by (fireAt g fm (conf g fm t) (m .number) k)
+        (sym (fires-here marks-then (some-fresh (gathered g fm (trailOf t)) (m .event .values)) k h) ∙ quiet)
       where
-        quiet : (isStep f (offsetOf table (t .config .state) k) && answer .fires) ≡ false
+        marks-then : List Bool
+        marks-then = someFresh (gathered g fm (trailOf t)) (m .event .values)
+
+        quiet : (isStep f (offsetOf table (t .config .state) k)
+            && (fired f (offsetOf table (t .config .state) k) (t .config) marks-then (m .event .values)) .fires) ≡ false
         quiet = rw (← step-none f (offsetOf table (t .config .state) k) z)
 
         by : (o : Option Config) → isFired o ≡ false → o ≡ none
@@ -123,7 +139,7 @@ module _ (g : Log) (fm : Formula) (f table : List ℕ) (rules : Rules) (m : Mome
         by (some d) q = absurd (true≢false q)
 
     -- a step that fires stands there where it stands in the formula
-    pub fires-stands : (d : Config) → fireAt g fm (configOf (t .config)) (m .number) k ≡ some d
+    pub fires-stands : (d : Config) → fireAt g fm (conf g fm t) (m .number) k ≡ some d
         → offsetOf table (t .config .state) k ≡ offsetOf (stepTable fm) (t .config .state) k
     fires-stands d q = go (entry k h)
       where
@@ -133,11 +149,19 @@ module _ (g : Log) (fm : Formula) (f table : List ℕ) (rules : Rules) (m : Mome
         go (barred z b) = let y : none ≡ some d = sym (fires-none z) ∙ q in let x : _≡_ {A = ℕ} 0 1 = cc in absurd (omega arith)
 
     -- one that it has fires as the code says, and leaves what the code leaves
-    pub fires-some : (offsetOf table (t .config .state) k ≡ 0 → ⊥)
-        → fireAt g fm (configOf (t .config)) (m .number) k ≡ cond (answer .fires) (some (configOf (answer .config))) none
-    fires-some z = go (entry k h)
+    pub fires-some : (fresh : List Bool) → IsFresh (gathered g fm (trailOf t)) (m .event .values) fresh → (offsetOf table (t .config .state) k ≡ 0 → ⊥)
+        → (r : Move)
+        → ((at : ℕ) → at ≡ offsetOf table (t .config .state) k
+        → r ≡ record {
+          fires = (fired f at (t .config) fresh (m .event .values)) .fires;
+          thread = record { config = (fired f at (t .config) fresh (m .event .values)) .config; steps = t .steps; trail = t .trail };
+        })
+        → FiredBy (fireAt g fm (conf g fm t) (m .number) k) t r
+    fires-some fresh new z r e = go (entry k h)
       where
         go : Firing f (m .event .values) (offsetOf (stepTable fm) (t .config .state) k) (offsetOf table (t .config .state) k)
-            → fireAt g fm (configOf (t .config)) (m .number) k ≡ cond (answer .fires) (some (configOf (answer .config))) none
-        go (stands x) = rw x (Base.fires-some g fm f (stepTable fm) rules (s .setting) m (s .loads) t k h ready (λ q. z (x ∙ q)))
+            → FiredBy (fireAt g fm (conf g fm t) (m .number) k) t r
+        go (stands x) =
+            Base.fires-some g fm f (stepTable fm) rules (s .setting) m (s .loads) t k h fresh (carries g fm f table rules m s t w (m .event .values) fresh new)
+            ready (λ q. z (x ∙ q)) r (e (offsetOf (stepTable fm) (t .config .state) k) (sym x))
         go (barred x b) = absurd (z x)

@@ -14,20 +14,21 @@ use Rattle.machine.specs.Firing.{leave}
 use Rattle.machine.specs.Machine.{fireAt, final}
 use Rattle.machine.proofs.Machine.{FiredAt, fire-at-some}
 use Rattle.slots.specs.declared.Thread.{Thread}
-use Rattle.machine_code.specs.inner.Bytes.{configOf, offsetOf}
+use Rattle.machine_code.specs.inner.Bytes.{offsetOf}
 use Rattle.machine_code.proofs.FiringOnBytes.{StepAt, inside, target-byte}
 use Rattle.machine_code.proofs.SameMachine.{StepThere}
 use Rattle.threads.specs.declared.Rules.{Rules}
 use Rattle.threads.specs.declared.Moment.{Moment}
-use Rattle.threads.specs.inner.Setting.{Scene, Fit}
+use Rattle.threads.specs.inner.Setting.{Scene, Fit, conf}
 use Rattle.threads.proofs.Charts.{charted}
 use Rattle.threads.proofs.Tables.{fires-stands}
 use Rattle.threads.proofs.Words.{final-at}
 
-module _ (g : Log) (fm : Formula) (f table : List ℕ) (rules : Rules) (m : Moment) (s : Scene g fm f table rules m) (t : Thread) (w : Fit fm t) (k : ℕ)
-    (h : k < 8) (d : Config) (e : fireAt g fm (configOf (t .config)) (m .number) k ≡ some d) where
-  found : FiredAt g fm (configOf (t .config)) (m .number) k d
-  found = fire-at-some g fm (configOf (t .config)) d (m .number) k e
+module _ (g : Log) (fm : Formula) {l places : List ℕ} (f table : List ℕ) (rules : Rules) (m : Moment) (s : Scene g fm l places f table rules m) (t : Thread)
+    (w : Fit g fm t) (k : ℕ)
+    (h : k < 8) (d : Config) (e : fireAt g fm (conf g fm t) (m .number) k ≡ some d) where
+  found : FiredAt g fm (conf g fm t) (m .number) k d
+  found = fire-at-some g fm (conf g fm t) d (m .number) k e
 
   -- the step's bytes stand at the table's offset
   stands : StepAt (length (g .fields)) (length (fm .states)) f (offsetOf table (t .config .state) k) (found .step)

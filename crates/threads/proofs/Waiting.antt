@@ -12,33 +12,32 @@ use borrow.Author.Tests.{le-leb, lt-leb, leb-true, leb-false}
 use Rattle.base.specs.Lists.{All}
 use Rattle.event_log.specs.Log.{Log}
 use Rattle.formula.specs.Formula.{Formula}
-use Rattle.runs.specs.inner.Lists.{only, keep, gather}
+use Rattle.runs.specs.inner.Lists.{only, keep, inTurn}
 use Rattle.runs.specs.inner.Search as Runs
 use Rattle.runs.specs.inner.Threads.{insert, insertWithin, candidates}
 use Rattle.runs.proofs.Growth.{keep-append, candidates-cons}
 use Rattle.runs.proofs.OneByOne.{chain, within-append, within-over, within-fits}
 use Rattle.runs.specs.inner.Order.{order}
-use Rattle.machine.specs.Configuration.{Config, same}
+use Rattle.machine.specs.Configuration.{Config}
 use Rattle.machine.specs.Machine.{machine, fireAt, final}
-use Rattle.machine_code.specs.inner.Bytes.{configOf}
 use Rattle.slots.specs.declared.Thread.{Thread}
 use Rattle.slots.specs.inner.Threads.{trailOf, comesAfter, replaced, lesserThread, placed, insertThread}
-use Rattle.slots.specs.inner.Words.{threadAt, place, list, Inserted}
+use Rattle.slots.specs.inner.Words.{threadAt, place, list, Around, Inserted}
 use Rattle.threads.specs.declared.Move.{Move}
 use Rattle.threads.specs.declared.Choice.{Choice}
-use Rattle.threads.specs.inner.Setting.{Fit, thread}
+use Rattle.threads.specs.inner.Setting.{Fit, conf, thread}
 use Rattle.threads.specs.inner.Event.{waitingIn, Kept}
-use Rattle.threads.specs.inner.Calls.{Going, MovedBy, Chosen, moveBy, Grown, Within, offered}
+use Rattle.threads.specs.inner.Calls.{Going, MovedBy, Chosen, moveBy, Grown, Within, offered, sameAs}
 use Rattle.threads.proofs.Firing.{firing-next}
 use Rattle.threads.proofs.Inserting.{insert-is}
 use Rattle.threads.proofs.Steps.{trail-length}
 use Rattle.threads.proofs.Listed.{waiting-next, waiting-done}
 
 -- what holds of b and of every thread of a list holds after inserting b
-insert-all : (P : Thread → Type 0) (b : Thread) (ths : List Thread) → P b → All P ths → All P (insertThread b ths)
+insert-all : (P : Thread → Type 0) (test : Thread → Bool) (b : Thread) (ths : List Thread) → P b → All P ths → All P (insertThread test b ths)
 unfolding insertThread lesserThread
-insert-all P b [] p h = (p, tt)
-insert-all P b (a ∷ ths) p h = by (same (configOf (a .config)) (configOf (b .config))) (insert-all P b ths p (h .1))
+insert-all P test b [] p h = (p, tt)
+insert-all P test b (a ∷ ths) p h = by (test a) (insert-all P test b ths p (h .1))
   where
     one : (c : Bool) → P (replaced c a b)
     one true = p
@@ -47,7 +46,7 @@ insert-all P b (a ∷ ths) p h = by (same (configOf (a .config)) (configOf (b .c
     lesser : P (lesserThread a b)
     lesser = one (comesAfter (order (trailOf a) (trailOf b)))
 
-    by : (c : Bool) → All P (insertThread b ths) → All P (placed c a b ths (insertThread b ths))
+    by : (c : Bool) → All P (insertThread test b ths) → All P (placed c a b ths (insertThread test b ths))
     by true k = (lesser, h .1)
     by false k = (h .0, k)
 
@@ -56,9 +55,9 @@ insert-all P b (a ∷ ths) p h = by (same (configOf (a .config)) (configOf (b .c
 pub grown-same : (half slots count : ℕ) (l : List ℕ) → count ≤ slots → Grown half slots l l count
 grown-same half slots count l h = record { most = omega arith; other = λ m k. refl; sized = refl }
 
-pub grown-insert : (half count slots : ℕ) (b : Thread) (before after : List ℕ) (r : ℕ) → half < 2 → count ≤ slots → Inserted half count slots b before after r
+pub grown-insert : (half count slots : ℕ) (before after : List ℕ) (r : ℕ) → half < 2 → count ≤ slots → Around half count before after r
     → Grown half slots before after r
-grown-insert half count slots b before after r two h i =
+grown-insert half count slots before after r two h i =
     record { most = omega (arith, i .most); other = λ m k. i .other (1 - half) 0 m (omega arith); sized = i .sized }
 
 pub grown-then : (half slots : ℕ) (a b c : List ℕ) (r s : ℕ) → Grown half slots a b r → Grown half slots b c s → Grown half slots a c s
@@ -66,28 +65,28 @@ grown-then half slots a b c r s p q = record { most = q .most; other = λ m h. q
 
 -- ---- what a step leaves
 
-module _ (g : Log) (fm : Formula) (t : Thread) (n k : ℕ) (m : Move) (h : MovedBy g fm (fireAt g fm (configOf (t .config)) n k) t n k m) where
+module _ (g : Log) (fm : Formula) (t : Thread) (n k : ℕ) (m : Move) (h : MovedBy g fm (fireAt g fm (conf g fm t) n k) t n k m) where
   pub move-silent : m .fires ≡ false → moveBy g fm t n k ≡ []
-  move-silent e = by (fireAt g fm (configOf (t .config)) n k) h
+  move-silent e = by (fireAt g fm (conf g fm t) n k) h
     where
       by : (o : Option Config) → MovedBy g fm o t n k m → Runs.arrive (machine g fm) (thread g fm t) n k o [] ≡ []
       by none x = refl
       by (some d) x = absurd (false≢true (sym e ∙ x .fires))
 
-  pub move-fires : m .fires ≡ true → (moveBy g fm t n k ≡ thread g fm (m .thread) ∷ []) × Fit fm (m .thread)
-  move-fires e = by (fireAt g fm (configOf (t .config)) n k) h
+  pub move-fires : m .fires ≡ true → (moveBy g fm t n k ≡ thread g fm (m .thread) ∷ []) × Fit g fm (m .thread)
+  move-fires e = by (fireAt g fm (conf g fm t) n k) h
     where
       by : (o : Option Config) → MovedBy g fm o t n k m
-          → (Runs.arrive (machine g fm) (thread g fm t) n k o [] ≡ thread g fm (m .thread) ∷ []) × Fit fm (m .thread)
+          → (Runs.arrive (machine g fm) (thread g fm t) n k o [] ≡ thread g fm (m .thread) ∷ []) × Fit g fm (m .thread)
       by none x = absurd (true≢false (sym e ∙ x))
       by (some d) x = (ap (λ (y : Runs.Thread (machine g fm)). y ∷ []) (sym (x .is)), x .fit)
 
   -- what it leaves has ended, where it leads to a state that accepts or rejects
-  pub move-final : m .fires ≡ true → ((d : Config) → fireAt g fm (configOf (t .config)) n k ≡ some d → final fm d ≡ true)
-      → final fm (configOf (m .thread .config)) ≡ true
-  move-final e o = by (fireAt g fm (configOf (t .config)) n k) refl h
+  pub move-final : m .fires ≡ true → ((d : Config) → fireAt g fm (conf g fm t) n k ≡ some d → final fm d ≡ true)
+      → final fm (conf g fm (m .thread)) ≡ true
+  move-final e o = by (fireAt g fm (conf g fm t) n k) refl h
     where
-      by : (x : Option Config) → fireAt g fm (configOf (t .config)) n k ≡ x → MovedBy g fm x t n k m → final fm (configOf (m .thread .config)) ≡ true
+      by : (x : Option Config) → fireAt g fm (conf g fm t) n k ≡ x → MovedBy g fm x t n k m → final fm (conf g fm (m .thread)) ≡ true
       by none q x = absurd (true≢false (sym e ∙ x))
       by (some d) q x = ap (λ (y : Runs.Thread (machine g fm)). final fm (y .config)) (x .is) ∙ o d q
 
@@ -95,19 +94,19 @@ module _ (g : Log) (fm : Formula) where
   -- ---- what may wait
 
   -- a step that leads to a state that accepts or rejects leaves nothing that waits
-  pub offered-past : (t : Thread) (n k : ℕ) → ((d : Config) → fireAt g fm (configOf (t .config)) n k ≡ some d → final fm d ≡ true)
+  pub offered-past : (t : Thread) (n k : ℕ) → ((d : Config) → fireAt g fm (conf g fm t) n k ≡ some d → final fm d ≡ true)
       → offered g fm n (moveBy g fm t n k) ≡ []
   unfolding keep Runs.unended
-  offered-past t n k o = by (fireAt g fm (configOf (t .config)) n k) refl
+  offered-past t n k o = by (fireAt g fm (conf g fm t) n k) refl
     where
-      by : (x : Option Config) → fireAt g fm (configOf (t .config)) n k ≡ x → offered g fm n (Runs.arrive (machine g fm) (thread g fm t) n k x []) ≡ []
+      by : (x : Option Config) → fireAt g fm (conf g fm t) n k ≡ x → offered g fm n (Runs.arrive (machine g fm) (thread g fm t) n k x []) ≡ []
       by none e = refl
       by (some d) e = rw (o d e)
 
-  module _ (n : ℕ) (b : Thread) (w : Fit fm b) where
-    unended-is : Runs.unended (machine g fm) (thread g fm b) ≡ (not (final fm (configOf (b .config))) && leb (b .steps) 31)
+  module _ (n : ℕ) (b : Thread) (w : Fit g fm b) where
+    unended-is : Runs.unended (machine g fm) (thread g fm b) ≡ (not (final fm (conf g fm b)) && leb (b .steps) 31)
     unfolding Runs.unended
-    unended-is = ap (λ l. not (final fm (configOf (b .config))) && leb l 31) (trail-length b (w .trail-32) (w .most))
+    unended-is = ap (λ l. not (final fm (conf g fm b)) && leb l 31) (trail-length b (w .trail-32) (w .most))
 
     offered-by : (c : Bool) → Runs.unended (machine g fm) (thread g fm b) ≡ c
         → offered g fm n (thread g fm b ∷ []) ≡ keep (Runs.hopeful (machine g fm) n) (only c (thread g fm b) [])
@@ -115,17 +114,17 @@ module _ (g : Log) (fm : Formula) where
     offered-by c e = ap (λ z. keep (Runs.hopeful (machine g fm) n) (only z (thread g fm b) [])) e
 
     -- a thread that has ended, or with 32 steps, does not wait
-    pub offered-final : final fm (configOf (b .config)) ≡ true → offered g fm n (thread g fm b ∷ []) ≡ []
+    pub offered-final : final fm (conf g fm b) ≡ true → offered g fm n (thread g fm b ∷ []) ≡ []
     unfolding keep
     offered-final e = offered-by false (unended-is ∙ ap (λ z. not z && leb (b .steps) 31) e)
 
     pub offered-long : 32 ≤ b .steps → offered g fm n (thread g fm b ∷ []) ≡ []
     unfolding keep
     offered-long l =
-        offered-by false (unended-is ∙ ap (λ z. not (final fm (configOf (b .config))) && z) (lt-leb (b .steps) 31 (omega arith))
-        ∙ and-false (not (final fm (configOf (b .config)))))
+        offered-by false (unended-is ∙ ap (λ z. not (final fm (conf g fm b)) && z) (lt-leb (b .steps) 31 (omega arith))
+        ∙ and-false (not (final fm (conf g fm b))))
 
-    pub offered-open : final fm (configOf (b .config)) ≡ false → b .steps < 32
+    pub offered-open : final fm (conf g fm b) ≡ false → b .steps < 32
         → offered g fm n (thread g fm b ∷ []) ≡ keep (Runs.hopeful (machine g fm) n) (thread g fm b ∷ [])
     offered-open e l = offered-by true (unended-is ∙ ap (λ z. not z && leb (b .steps) 31) e ∙ le-leb (b .steps) 31 (omega arith))
 
@@ -184,7 +183,7 @@ module _ (g : Log) (fm : Formula) (half slots : ℕ) where
   -- ---- inserting
 
   -- nothing is inserted
-  pub within-none : (count : ℕ) (l : List ℕ) (bs : List (Runs.Thread (machine g fm))) → bs ≡ [] → count ≤ slots → Kept fm half count l
+  pub within-none : (count : ℕ) (l : List ℕ) (bs : List (Runs.Thread (machine g fm))) → bs ≡ [] → count ≤ slots → Kept g fm half count l
       → Within g fm half slots (waitingIn g fm half count l) bs l count
   unfolding insertWithin
   within-none count l bs e h k = inl (h, ap (insertWithin (machine g fm) slots (waitingIn g fm half count l)) e, k)
@@ -196,12 +195,12 @@ module _ (g : Log) (fm : Formula) (half slots : ℕ) where
 
   -- inserting has given `whole`: a list, which stands in the half, or nothing
   abbrev pub Done : Option (List (Runs.Thread (machine g fm))) → List ℕ → ℕ → Type 0
-  Done whole after r = ((r ≤ slots) × (whole ≡ some (waitingIn g fm half r after)) × Kept fm half r after) ⊎ ((r ≡ suc slots) × (whole ≡ none))
+  Done whole after r = ((r ≤ slots) × (whole ≡ some (waitingIn g fm half r after)) × Kept g fm half r after) ⊎ ((r ≡ suc slots) × (whole ≡ none))
 
   -- What is left to insert: the threads bs, into the list of r threads that stands in the half; the whole gives `whole`.
   pub record Left (whole : Option (List (Runs.Thread (machine g fm)))) (bs : List (Runs.Thread (machine g fm))) (after : List ℕ) (r : ℕ) : Type 0 where
     pub is : whole ≡ insertWithin (machine g fm) slots (waitingIn g fm half r after) bs
-    pub kept : Kept fm half r after
+    pub kept : Kept g fm half r after
 
   module _ (whole : Option (List (Runs.Thread (machine g fm)))) (xs ys : List (Runs.Thread (machine g fm))) (mid after : List ℕ) (r s : ℕ)
       (left : Left whole (xs ++ ys) mid r) where
@@ -233,13 +232,14 @@ module _ (g : Log) (fm : Formula) (half slots : ℕ) where
   left-none whole bs after r e l h = left-last whole bs after after r r h (within-none r after bs e l (h .kept))
 
   -- one thread was inserted
-  within-one : (count : ℕ) (b : Thread) (before after : List ℕ) (r : ℕ) → count ≤ slots → Kept fm half count before → Going fm b
-      → Inserted half count slots b before after r → Within g fm half slots (waitingIn g fm half count before) (thread g fm b ∷ []) after r
+  within-one : (count : ℕ) (b : Thread) (before after : List ℕ) (r : ℕ) → count ≤ slots → Kept g fm half count before → Going g fm b
+      → Around half count before after r → Inserted (sameAs g fm b) half count slots b before after r
+      → Within g fm half slots (waitingIn g fm half count before) (thread g fm b ∷ []) after r
   unfolding insertWithin
-  within-one count b before after r h k w i = by (leb r slots) refl
+  within-one count b before after r h k w o i = by (leb r slots) refl
     where
       more : List Thread
-      more = insertThread b (list half count before)
+      more = insertThread (sameAs g fm b) b (list half count before)
 
       inserted : insert (machine g fm) (thread g fm b) (waitingIn g fm half count before) ≡ map (thread g fm) more
       inserted = sym (insert-is g fm b (list half count before))
@@ -256,25 +256,26 @@ module _ (g : Log) (fm : Formula) (half slots : ℕ) where
             within-fits (machine g fm) slots (waitingIn g fm half count before) (thread g fm b) [] (omega (arith, longer))
                 ∙ ap (λ (z : List (Runs.Thread (machine g fm))). some z) (inserted ∙ ap (map (thread g fm)) (sym q)),
             record {
-              fit = subst (All (Fit fm)) (sym q) (insert-all (Fit fm) b (list half count before) (w .fit) (k .fit));
+              fit = subst (All (Fit g fm)) (sym q) (insert-all (Fit g fm) (sameAs g fm b) b (list half count before) (w .fit) (k .fit));
               short = subst (All (λ (t : Thread). t .steps < 32)) (sym q)
-                  (insert-all (λ (t : Thread). t .steps < 32) b (list half count before) (w .short) (k .short));
+                  (insert-all (λ (t : Thread). t .steps < 32) (sameAs g fm b) b (list half count before) (w .short) (k .short));
             },
           )
       by false e =
           let l : slots < r = leb-false r slots e in
-          inr (omega (arith, i .most), within-over (machine g fm) slots (waitingIn g fm half count before) (thread g fm b) [] (omega (arith, longer)))
+          inr (omega (arith, o .most, l), within-over (machine g fm) slots (waitingIn g fm half count before) (thread g fm b) [] (omega (arith, longer)))
 
-  module _ (n count : ℕ) (b : Thread) (before : List ℕ) (h : count ≤ slots) (k : Kept fm half count before) where
+  module _ (n count : ℕ) (b : Thread) (before : List ℕ) (h : count ≤ slots) (k : Kept g fm half count before) where
     -- some step of its state is not expired
-    pub wait-in : (after : List ℕ) (r : ℕ) → Going fm b → true ≡ Runs.anyAlive (machine g fm) (configOf (b .config)) n 8
-        → Inserted half count slots b before after r
+    pub wait-in : (after : List ℕ) (r : ℕ) → Going g fm b → true ≡ Runs.anyAlive (machine g fm) (conf g fm b) n 8
+        → Around half count before after r → Inserted (sameAs g fm b) half count slots b before after r
         → Within g fm half slots (waitingIn g fm half count before) (keep (Runs.hopeful (machine g fm) n) (thread g fm b ∷ [])) after r
     unfolding keep Runs.hopeful
-    wait-in after r w e i =
-        subst (λ z. Within g fm half slots (waitingIn g fm half count before) (only z (thread g fm b) []) after r) e (within-one count b before after r h k w i)
+    wait-in after r w e o i =
+        subst (λ z. Within g fm half slots (waitingIn g fm half count before) (only z (thread g fm b) []) after r) e
+        (within-one count b before after r h k w o i)
 
-    pub wait-out : false ≡ Runs.anyAlive (machine g fm) (configOf (b .config)) n 8
+    pub wait-out : false ≡ Runs.anyAlive (machine g fm) (conf g fm b) n 8
         → Within g fm half slots (waitingIn g fm half count before) (keep (Runs.hopeful (machine g fm) n) (thread g fm b ∷ [])) before count
     unfolding keep Runs.hopeful
     wait-out e =
@@ -290,5 +291,5 @@ candidates-next g fm n half count l j t h e =
 
 pub candidates-none : (g : Log) (fm : Formula) (n half count : ℕ) (l : List ℕ) (j : ℕ) → count ≤ j
     → candidates (machine g fm) n (drop j (waitingIn g fm half count l)) ≡ []
-unfolding candidates Runs.next gather keep
+unfolding candidates Runs.next inTurn keep
 candidates-none g fm n half count l j h = ap (candidates (machine g fm) n) (waiting-done g fm half count l j h)

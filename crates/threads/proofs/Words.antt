@@ -13,10 +13,9 @@ use Rattle.formula.specs.Encode.{kindByte}
 use Rattle.formula.specs.Correct.{isFinal}
 use Rattle.machine.specs.Configuration.{Config}
 use Rattle.machine.specs.Machine.{kindIs, isCommitted, final, committed}
-use Rattle.machine_code.specs.inner.Bytes.{configOf}
 use Rattle.slots.specs.declared.Thread.{Thread}
 use Rattle.threads.specs.declared.Rules.{Rules}
-use Rattle.threads.specs.inner.Setting.{Setting, Fit}
+use Rattle.threads.specs.inner.Setting.{Setting, Fit, conf}
 
 -- the kind words of the states
 abbrev words : List State → List ℕ
@@ -49,11 +48,11 @@ module _ (g : Log) (fm : Formula) (f table : List ℕ) (rules : Rules) (s : Sett
   unfolding final
   final-at d h = ap (leb 2) (word-at (d .state) h) ∙ word-is (leb 2) isFinal by-final (fm .states) (d .state) h
 
-module _ (g : Log) (fm : Formula) (f table : List ℕ) (rules : Rules) (s : Setting g fm f table rules) (t : Thread) (h : Fit fm t) where
-  pub final-word : leb 2 (getD (rules .kinds) (t .config .state) 0) ≡ final fm (configOf (t .config))
-  final-word = final-at g fm f table rules s (configOf (t .config)) (h .valid .declared)
+module _ (g : Log) (fm : Formula) (f table : List ℕ) (rules : Rules) (s : Setting g fm f table rules) (t : Thread) (h : Fit g fm t) where
+  pub final-word : leb 2 (getD (rules .kinds) (t .config .state) 0) ≡ final fm (conf g fm t)
+  final-word = final-at g fm f table rules s (conf g fm t) (h .valid .declared)
 
-  pub committed-word : eqb (getD (rules .kinds) (t .config .state) 0) 1 ≡ committed fm (configOf (t .config))
+  pub committed-word : eqb (getD (rules .kinds) (t .config .state) 0) 1 ≡ committed fm (conf g fm t)
   unfolding committed
   committed-word =
       ap (λ w. eqb w 1) (word-at g fm f table rules s (t .config .state) (h .valid .declared))

@@ -1,4 +1,6 @@
 // One event of a search: the runs that end on it, and the waiting list after it, with threads in lent words.
+mod gathered;
+mod insertion;
 mod step;
 pub mod table;
 
@@ -12,10 +14,12 @@ ghost use lib.ListN.{length, getD};
 ghost use Rattle.threads.specs.inner.Event.{Seated, EndingIs, AdvancedIs};
 ghost use Rattle.threads.specs.inner.Calls.{MovedIs, ChoiceIs, BetterIs, EndedIs, WaitsIs, OfferIs, OfferMoveIs, OfferMovesIs, StayIs, OfferAllIs};
 
-// What stays from event to event: the kind of each state (0 ordinary, 1 committed, 2 accept, 3 reject), and which fields rise.
+// What stays from event to event: the kind of each state (0 ordinary, 1 committed, 2 accept, 3 reject), which fields
+// rise, and how many fields the log has.
 pub struct Rules {
     pub kinds: [u32; 16],
     pub rises: [bool; 8],
+    pub fields: usize,
 }
 
 // An event with its number, and the values by which steps are judged expired after it.
@@ -79,11 +83,20 @@ fn is_committed(rules: Rules, state: u32) -> bool
 }
 
 // Step k of a thread's state on the event: whether it fires, and the thread with that step taken.
-fn moved(f: &[u8], table: &[usize], moment: Moment, t: Thread, k: u32) -> Move
+fn moved(
+    l: &[u8],
+    places: &[usize],
+    f: &[u8],
+    table: &[usize],
+    rules: Rules,
+    moment: Moment,
+    t: Thread,
+    k: u32,
+) -> Move
     requires { ⌜ (moment .number < 1024) × (k < 8) ⌝ }
-    ensures { λ r. ⌜ MovedIs (now (f .entry)) (now (table .entry)) moment t k r ⌝ }
+    ensures { λ r. ⌜ MovedIs (now (l .entry)) (now (places .entry)) (now (f .entry)) (now (table .entry)) rules moment t k r ⌝ }
 {
-    let fired = step::fires_at(f, table, moment, t, k);
+    let fired = step::fires_at(l, places, f, table, rules, moment, t, k);
     let next = fired.thread;
     if fired.fires {
         if next.steps < 32 {
@@ -102,12 +115,20 @@ fn moved(f: &[u8], table: &[usize], moment: Moment, t: Thread, k: u32) -> Move
 
 // What a thread may do on the event: in a committed state the lowest numbered step that fires is taken; else each step, and
 // once the first step is taken they may be passed over.
-fn choice_of(f: &[u8], table: &[usize], rules: Rules, moment: Moment, t: Thread) -> Choice
-    ensures { λ r. ⌜ ChoiceIs (now (f .entry)) (now (table .entry)) rules moment t r ⌝ }
+fn choice_of(
+    l: &[u8],
+    places: &[usize],
+    f: &[u8],
+    table: &[usize],
+    rules: Rules,
+    moment: Moment,
+    t: Thread,
+) -> Choice
+    ensures { λ r. ⌜ ChoiceIs (now (l .entry)) (now (places .entry)) (now (f .entry)) (now (table .entry)) rules moment t r ⌝ }
 {
     let begun = 0 < t.steps;
     if is_committed(rules, t.config.state) {
-        let k = step::lowest_at(f, table, moment, t);
+        let k = step::lowest_at(l, places, f, table, rules, moment, t);
         if k < 8 {
             return Choice {
                 from: k,
@@ -131,6 +152,8 @@ fn choice_of(f: &[u8], table: &[usize], rules: Rules, moment: Moment, t: Thread)
 // The lesser of the best so far and of the run that ends on the event by step k, if one does.
 fn better(
     best: Best,
+    l: &[u8],
+    places: &[usize],
     f: &[u8],
     table: &[usize],
     rules: Rules,
@@ -139,12 +162,12 @@ fn better(
     k: u32,
 ) -> Best
     requires { ⌜ (moment .number < 1024) × (k < 8) ⌝ }
-    ensures { λ r. ⌜ BetterIs (now (f .entry)) (now (table .entry)) rules moment best t k r ⌝ }
+    ensures { λ r. ⌜ BetterIs (now (l .entry)) (now (places .entry)) (now (f .entry)) (now (table .entry)) rules moment best t k r ⌝ }
 {
     if !step::ends_by(f, table, rules, t.config.state, k) {
         return best;
     }
-    let next = moved(f, table, moment, t, k);
+    let next = moved(l, places, f, table, rules, moment, t, k);
     let thread = next.thread;
     if !next.fires {
         return best;
@@ -162,16 +185,25 @@ fn better(
 }
 
 // The least of the best so far and of the runs that end on the event by a step of a thread.
-fn ending_of(best: Best, f: &[u8], table: &[usize], rules: Rules, moment: Moment, t: Thread) -> Best
+fn ending_of(
+    best: Best,
+    l: &[u8],
+    places: &[usize],
+    f: &[u8],
+    table: &[usize],
+    rules: Rules,
+    moment: Moment,
+    t: Thread,
+) -> Best
     requires { ⌜ moment .number < 1024 ⌝ }
-    ensures { λ r. ⌜ EndedIs (now (f .entry)) (now (table .entry)) rules moment best t r ⌝ }
+    ensures { λ r. ⌜ EndedIs (now (l .entry)) (now (places .entry)) (now (f .entry)) (now (table .entry)) rules moment best t r ⌝ }
 {
-    let choice = choice_of(f, table, rules, moment, t);
+    let choice = choice_of(l, places, f, table, rules, moment, t);
     let to = choice.to;
     let mut least = best;
     let mut k = choice.from;
     while k < to {
-        least = better(least, f, table, rules, moment, t, k);
+        least = better(least, l, places, f, table, rules, moment, t, k);
         k += 1;
     }
     least
@@ -181,13 +213,15 @@ fn ending_of(best: Best, f: &[u8], table: &[usize], rules: Rules, moment: Moment
 pub fn ending(
     work: &[u32],
     seats: Seats,
+    l: &[u8],
+    places: &[usize],
     f: &[u8],
     table: &[usize],
     rules: Rules,
     moment: Moment,
 ) -> Best
     requires { ⌜ Seated seats (now work) × (moment .number < 1024) ⌝ }
-    ensures { λ r. ⌜ EndingIs (now (f .entry)) (now (table .entry)) rules moment seats (now (work .entry)) r ⌝ }
+    ensures { λ r. ⌜ EndingIs (now (l .entry)) (now (places .entry)) (now (f .entry)) (now (table .entry)) rules moment seats (now (work .entry)) r ⌝ }
 {
     let mut best = Best {
         found: false,
@@ -196,7 +230,7 @@ pub fn ending(
     let mut j: usize = 0;
     while j < seats.count {
         let t = slots::load_slot(work, j, seats.half);
-        best = ending_of(best, f, table, rules, moment, t);
+        best = ending_of(best, l, places, f, table, rules, moment, t);
         j += 1;
     }
     best
@@ -206,17 +240,19 @@ pub fn ending(
 fn wait(
     work: &mut [u32],
     seats: Seats,
+    l: &[u8],
+    places: &[usize],
     f: &[u8],
     table: &[usize],
-    rises: [bool; 8],
-    latest: Latest,
+    rules: Rules,
+    moment: Moment,
     b: Thread,
 ) -> usize
     requires { ⌜ Seated seats (now work) ⌝ }
-    ensures { λ r. ⌜ WaitsIs (now (f .entry)) (now (table .entry)) rises latest seats b (now (work .entry)) (now (work .exit)) r ⌝ }
+    ensures { λ r. ⌜ WaitsIs (now (l .entry)) (now (places .entry)) (now (f .entry)) (now (table .entry)) rules moment seats b (now (work .entry)) (now (work .exit)) r ⌝ }
 {
-    if step::hopeful_at(f, table, rises, latest, b) {
-        return slots::insert(work, seats.half, seats.count, seats.slots, b);
+    if step::hopeful_at(l, places, f, table, rules, moment, b) {
+        return insertion::insert(work, seats, l, places, f, table, rules, b);
     }
     seats.count
 }
@@ -226,6 +262,8 @@ fn wait(
 fn offer(
     work: &mut [u32],
     seats: Seats,
+    l: &[u8],
+    places: &[usize],
     f: &[u8],
     table: &[usize],
     rules: Rules,
@@ -233,7 +271,7 @@ fn offer(
     b: Thread,
 ) -> usize
     requires { ⌜ Seated seats (now work) ⌝ }
-    ensures { λ r. ⌜ OfferIs (now (f .entry)) (now (table .entry)) rules moment seats b (now (work .entry)) (now (work .exit)) r ⌝ }
+    ensures { λ r. ⌜ OfferIs (now (l .entry)) (now (places .entry)) (now (f .entry)) (now (table .entry)) rules moment seats b (now (work .entry)) (now (work .exit)) r ⌝ }
 {
     if is_final(rules, b.config.state) {
         return seats.count;
@@ -241,14 +279,15 @@ fn offer(
     if 32 <= b.steps {
         return seats.count;
     }
-    let rises = rules.rises;
-    wait(work, seats, f, table, rises, moment.latest, b)
+    wait(work, seats, l, places, f, table, rules, moment, b)
 }
 
 // Offers what step k of a thread's state leaves on the event.
 fn offer_move(
     work: &mut [u32],
     seats: Seats,
+    l: &[u8],
+    places: &[usize],
     f: &[u8],
     table: &[usize],
     rules: Rules,
@@ -257,15 +296,15 @@ fn offer_move(
     k: u32,
 ) -> usize
     requires { ⌜ Seated seats (now work) × (moment .number < 1024) × (k < 8) ⌝ }
-    ensures { λ r. ⌜ OfferMoveIs (now (f .entry)) (now (table .entry)) rules moment seats t k (now (work .entry)) (now (work .exit)) r ⌝ }
+    ensures { λ r. ⌜ OfferMoveIs (now (l .entry)) (now (places .entry)) (now (f .entry)) (now (table .entry)) rules moment seats t k (now (work .entry)) (now (work .exit)) r ⌝ }
 {
     if step::ends_by(f, table, rules, t.config.state, k) {
         return seats.count;
     }
-    let next = moved(f, table, moment, t, k);
+    let next = moved(l, places, f, table, rules, moment, t, k);
     let b = next.thread;
     if next.fires {
-        return offer(work, seats, f, table, rules, moment, b);
+        return offer(work, seats, l, places, f, table, rules, moment, b);
     }
     seats.count
 }
@@ -274,6 +313,8 @@ fn offer_move(
 fn offer_moves(
     work: &mut [u32],
     seats: Seats,
+    l: &[u8],
+    places: &[usize],
     f: &[u8],
     table: &[usize],
     rules: Rules,
@@ -282,7 +323,7 @@ fn offer_moves(
     choice: Choice,
 ) -> usize
     requires { ⌜ Seated seats (now work) × (moment .number < 1024) × (choice .to ≤ 8) ⌝ }
-    ensures { λ r. ⌜ OfferMovesIs (now (f .entry)) (now (table .entry)) rules moment seats t choice (now (work .entry)) (now (work .exit)) r ⌝ }
+    ensures { λ r. ⌜ OfferMovesIs (now (l .entry)) (now (places .entry)) (now (f .entry)) (now (table .entry)) rules moment seats t choice (now (work .entry)) (now (work .exit)) r ⌝ }
 {
     let mut count = seats.count;
     let mut k = choice.from;
@@ -292,7 +333,7 @@ fn offer_moves(
             count,
             slots: seats.slots,
         };
-        count = offer_move(work, grown, f, table, rules, moment, t, k);
+        count = offer_move(work, grown, l, places, f, table, rules, moment, t, k);
         if seats.slots < count {
             return count;
         }
@@ -305,6 +346,8 @@ fn offer_moves(
 fn stay(
     work: &mut [u32],
     seats: Seats,
+    l: &[u8],
+    places: &[usize],
     f: &[u8],
     table: &[usize],
     rules: Rules,
@@ -313,11 +356,10 @@ fn stay(
     stays: bool,
 ) -> usize
     requires { ⌜ Seated seats (now work) ⌝ }
-    ensures { λ r. ⌜ StayIs (now (f .entry)) (now (table .entry)) rules moment seats t stays (now (work .entry)) (now (work .exit)) r ⌝ }
+    ensures { λ r. ⌜ StayIs (now (l .entry)) (now (places .entry)) (now (f .entry)) (now (table .entry)) rules moment seats t stays (now (work .entry)) (now (work .exit)) r ⌝ }
 {
     if stays {
-        let rises = rules.rises;
-        return wait(work, seats, f, table, rises, moment.latest, t);
+        return wait(work, seats, l, places, f, table, rules, moment, t);
     }
     seats.count
 }
@@ -326,6 +368,8 @@ fn stay(
 fn offer_all(
     work: &mut [u32],
     seats: Seats,
+    l: &[u8],
+    places: &[usize],
     f: &[u8],
     table: &[usize],
     rules: Rules,
@@ -333,10 +377,21 @@ fn offer_all(
     t: Thread,
 ) -> usize
     requires { ⌜ Seated seats (now work) × (moment .number < 1024) ⌝ }
-    ensures { λ r. ⌜ OfferAllIs (now (f .entry)) (now (table .entry)) rules moment seats t (now (work .entry)) (now (work .exit)) r ⌝ }
+    ensures { λ r. ⌜ OfferAllIs (now (l .entry)) (now (places .entry)) (now (f .entry)) (now (table .entry)) rules moment seats t (now (work .entry)) (now (work .exit)) r ⌝ }
 {
-    let choice = choice_of(f, table, rules, moment, t);
-    let count = stay(work, seats, f, table, rules, moment, t, choice.stays);
+    let choice = choice_of(l, places, f, table, rules, moment, t);
+    let count = stay(
+        work,
+        seats,
+        l,
+        places,
+        f,
+        table,
+        rules,
+        moment,
+        t,
+        choice.stays,
+    );
     if seats.slots < count {
         return count;
     }
@@ -345,7 +400,7 @@ fn offer_all(
         count,
         slots: seats.slots,
     };
-    offer_moves(work, grown, f, table, rules, moment, t, choice)
+    offer_moves(work, grown, l, places, f, table, rules, moment, t, choice)
 }
 
 // Builds the waiting list after the event in the other half, from the threads that waited before it; it stops where one more
@@ -353,13 +408,15 @@ fn offer_all(
 pub fn advance(
     work: &mut [u32],
     seats: Seats,
+    l: &[u8],
+    places: &[usize],
     f: &[u8],
     table: &[usize],
     rules: Rules,
     moment: Moment,
 ) -> usize
     requires { ⌜ Seated seats (now work) × (moment .number < 1024) ⌝ }
-    ensures { λ r. ⌜ AdvancedIs (now (f .entry)) (now (table .entry)) rules moment seats (now (work .entry)) (now (work .exit)) r ⌝ }
+    ensures { λ r. ⌜ AdvancedIs (now (l .entry)) (now (places .entry)) (now (f .entry)) (now (table .entry)) rules moment seats (now (work .entry)) (now (work .exit)) r ⌝ }
     ensures { λ r. ⌜ (r ≤ seats .slots + 1) × (length (now (work .exit)) ≡ length (now (work .entry))) ⌝ }
 {
     let other = 1 - seats.half;
@@ -372,7 +429,7 @@ pub fn advance(
             count,
             slots: seats.slots,
         };
-        count = offer_all(work, next, f, table, rules, moment, t);
+        count = offer_all(work, next, l, places, f, table, rules, moment, t);
         if seats.slots < count {
             return count;
         }

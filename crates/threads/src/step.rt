@@ -2,7 +2,6 @@
 use crate::Moment;
 use crate::Move;
 use crate::Rules;
-use event_log::Latest;
 use slots::Thread;
 ghost use Rattle.threads.specs.inner.Calls.{EndsIs, FiresIs, LowestIs, HopefulIs};
 
@@ -18,8 +17,17 @@ pub fn ends_by(f: &[u8], table: &[usize], rules: Rules, state: u32, k: u32) -> b
 }
 
 // Whether step k of a thread's state fires on the event, and the thread in the configuration that it leaves, its trail as before.
-pub fn fires_at(f: &[u8], table: &[usize], moment: Moment, t: Thread, k: u32) -> Move
-    ensures { λ r. ⌜ FiresIs (now (f .entry)) (now (table .entry)) moment t k r ⌝ }
+pub fn fires_at(
+    l: &[u8],
+    places: &[usize],
+    f: &[u8],
+    table: &[usize],
+    rules: Rules,
+    moment: Moment,
+    t: Thread,
+    k: u32,
+) -> Move
+    ensures { λ r. ⌜ FiresIs (now (l .entry)) (now (places .entry)) (now (f .entry)) (now (table .entry)) rules moment t k r ⌝ }
 {
     let before = t.config;
     let at = machine_code::steps::step_offset(table, before.state, k as usize);
@@ -30,7 +38,9 @@ pub fn fires_at(f: &[u8], table: &[usize], moment: Moment, t: Thread, k: u32) ->
         };
     }
     let event = moment.event;
-    let fired = machine_code::firing::fire(f, at, before, event);
+    let values = event.values;
+    let fresh = crate::gathered::fresh_at(l, places, f, table, rules, t, values);
+    let fired = machine_code::firing::fire(f, at, before, fresh, event);
     let config = fired.config;
     let trail = t.trail;
     let thread = Thread {
@@ -45,22 +55,44 @@ pub fn fires_at(f: &[u8], table: &[usize], moment: Moment, t: Thread, k: u32) ->
 }
 
 // The number of the lowest numbered step of a thread's state that fires on the event, 8 if none does.
-pub fn lowest_at(f: &[u8], table: &[usize], moment: Moment, t: Thread) -> u32
-    ensures { λ r. ⌜ LowestIs (now (f .entry)) (now (table .entry)) moment t r ⌝ }
+pub fn lowest_at(
+    l: &[u8],
+    places: &[usize],
+    f: &[u8],
+    table: &[usize],
+    rules: Rules,
+    moment: Moment,
+    t: Thread,
+) -> u32
+    ensures { λ r. ⌜ LowestIs (now (l .entry)) (now (places .entry)) (now (f .entry)) (now (table .entry)) rules moment t r ⌝ }
 {
     let config = t.config;
     let event = moment.event;
-    let k = machine_code::steps::lowest(f, table, config, event);
+    let values = event.values;
+    let fresh = crate::gathered::fresh_at(l, places, f, table, rules, t, values);
+    let k = machine_code::steps::lowest(f, table, config, fresh, event);
     k as u32
 }
 
 // Whether some step of a thread's state is not expired after the event.
-pub fn hopeful_at(f: &[u8], table: &[usize], rises: [bool; 8], latest: Latest, t: Thread) -> bool
-    ensures { λ r. ⌜ HopefulIs (now (f .entry)) (now (table .entry)) rises latest t r ⌝ }
+pub fn hopeful_at(
+    l: &[u8],
+    places: &[usize],
+    f: &[u8],
+    table: &[usize],
+    rules: Rules,
+    moment: Moment,
+    t: Thread,
+) -> bool
+    ensures { λ r. ⌜ HopefulIs (now (l .entry)) (now (places .entry)) (now (f .entry)) (now (table .entry)) rules moment t r ⌝ }
 {
     if table.len() < 128 {
         return false;
     }
     let config = t.config;
-    machine_code::steps::hopeful(f, &table[128..], config, rises, latest)
+    let rises = rules.rises;
+    let latest = moment.latest;
+    let values = latest.values;
+    let fresh = crate::gathered::fresh_at(l, places, f, table, rules, t, values);
+    machine_code::steps::hopeful(f, &table[128..], config, fresh, rises, latest)
 }

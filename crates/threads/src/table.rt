@@ -1,5 +1,5 @@
-// The table of an event: where each step stands, in its first half 0 where the event alone keeps the step from firing, in its second
-// half 0 where the event alone makes it expired. A TEST reads no variable, so that one look serves every thread.
+// The table of an event, in three parts: where each step stands, in the first 0 where the event alone keeps the step from firing, in
+// the second 0 where the event alone makes it expired. A TEST reads no variable, so that one look serves every thread.
 use crate::Moment;
 use crate::Seats;
 ghost use mathlib.Core.Path.{_≡_};
@@ -16,15 +16,16 @@ fn entry(steps: &[usize], i: usize) -> usize
     if i < steps.len() { steps[i] } else { 0 }
 }
 
-// Both halves, before an event says anything.
-pub fn widened(steps: &[usize; 128]) -> [usize; 256]
+// The three parts, before an event says anything.
+pub fn widened(steps: &[usize; 128]) -> [usize; 384]
     ensures { λ r. ⌜ Wide (now (steps .entry)) r ⌝ }
 {
-    let mut table = [0usize; 256];
+    let mut table = [0usize; 384];
     let mut i: usize = 0;
     while i < 128 {
         table[i] = steps[i];
         table[128 + i] = steps[i];
+        table[256 + i] = steps[i];
         i += 1;
     }
     table
@@ -47,7 +48,7 @@ fn mark_entry(
     event: &[u32],
     latest: &[u32],
 )
-    requires { ⌜ (length (now table) ≡ 256) × (i < 128) ⌝ }
+    requires { ⌜ (length (now table) ≡ 384) × (i < 128) ⌝ }
     ensures { λ _. ⌜ MarkedBy (now (f .entry)) (now (steps .entry)) (now (rises .entry)) (now (event .entry)) (now (latest .entry)) (now (table .entry)) (now (table .exit)) ⌝ }
 {
     let place = machine_code::marks::barred(f, entry(steps, i), event);
@@ -69,7 +70,7 @@ fn mark_state(
     rises: [bool; 8],
     moment: Moment,
 )
-    requires { ⌜ (length (now table) ≡ 256) × (s < 16) ⌝ }
+    requires { ⌜ (length (now table) ≡ 384) × (s < 16) ⌝ }
     ensures { λ _. ⌜ MarkedIs (now (f .entry)) (now (steps .entry)) rises moment (now (table .entry)) (now (table .exit)) ⌝ }
 {
     let event = moment.event;
@@ -100,7 +101,7 @@ fn mark_once(
     rises: [bool; 8],
     moment: Moment,
 ) -> [bool; 16]
-    requires { ⌜ length (now table) ≡ 256 ⌝ }
+    requires { ⌜ length (now table) ≡ 384 ⌝ }
     ensures { λ _. ⌜ MarkedIs (now (f .entry)) (now (steps .entry)) rises moment (now (table .entry)) (now (table .exit)) ⌝ }
 {
     if is_new(done, s) {
@@ -122,7 +123,7 @@ pub fn mark_states(
     rises: [bool; 8],
     moment: Moment,
 )
-    requires { ⌜ (length (now table) ≡ 256) × Seated seats (now work) ⌝ }
+    requires { ⌜ (length (now table) ≡ 384) × Seated seats (now work) ⌝ }
     ensures { λ _. ⌜ MarkedIs (now (f .entry)) (now (steps .entry)) rises moment (now (table .entry)) (now (table .exit)) ⌝ }
 {
     let mut done = [false; 16];

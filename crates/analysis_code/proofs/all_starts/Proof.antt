@@ -36,7 +36,7 @@ search-from-requires c κs =
     let c3 = c .before .before .before in
     let c8 = c3 .before .before .before .before .before in
     let p = c8 .pre in
-    (omega (arith, p .0, c3 .loop .inv .1), p .1, p .2)
+    (omega (arith, p .0, c3 .loop .inv .1), p .1, p .2, p .4)
 
 one-start-requires : tie.Need-one-start-requires Inv-loop μ-loop
 one-start-requires c κs =

@@ -1,6 +1,6 @@
 -- `analysis_code::checked` meets its contract: 10 for work words, 10 for rows, then every start.
 use lib.ListN.{length}
-use mathlib.Core.Path.{ap}
+use mathlib.Core.Path.{_≡_, ap}
 use Rattle.event_log.specs.File.{logOf}
 use Rattle.event_log.specs.Read.{answerOf}
 use Rattle.event_log.specs.declared.LogReading.{LogReading}
@@ -38,6 +38,9 @@ slots-of-requires c κs = search needs
 scope-of-requires : tie.Need-scope-of-requires
 scope-of-requires c κs = search needs
 
+places-1024 : (c : tie.Start) → length (c .args .files .log .places) ≡ 1024
+places-1024 c = search needs
+
 all-starts-requires : tie.Need-all-starts-requires
 all-starts-requires c κs =
     let c4 = c .before .before .before .before in
@@ -46,7 +49,7 @@ all-starts-requires c κs =
     let c13 = c10 .before .before .before in
     let c18 = c13 .before .before .before .before .before in
     let s = slots-fit (length (now (c18 .args .work))) (c13 .if1 .left) in
-    rw (c4 .scope-of .ensures, c5 .slots-of .ensures) (s .0, s .1, c18 .pre, c10 .if2 .left)
+    rw (c4 .scope-of .ensures, c5 .slots-of .ensures) (s .0, s .1, c18 .pre, c10 .if2 .left, places-1024 c18)
 
 same-length : tie.Need-same-length
 same-length c = search needs

@@ -42,6 +42,12 @@ enum-told-8 c = search needs
 enum-told-9 : tie.Need-enum-told-9
 enum-told-9 c = search needs
 
+some-without-requires-5 : tie.Need-some-without-requires-5
+some-without-requires-5 c κs = search needs
+
+enum-told-10 : tie.Need-enum-told-10
+enum-told-10 c = search needs
+
 returns : tie.Need-returns
 returns c = rw (c .before .enum-told .given .1)
 
@@ -67,7 +73,10 @@ returns-8 : tie.Need-returns-8
 returns-8 c = rw (c .before .enum-told8 .given .1)
 
 returns-9 : tie.Need-returns-9
-returns-9 c = search needs
+returns-9 c = rw (c .before .enum-told9 .given .1) (c .some-without5 .ensures)
+
+returns-10 : tie.Need-returns-10
+returns-10 c = search needs
 
 pub is-allowed-spec : {M : Type 1} → statement M
 is-allowed-spec =
@@ -86,6 +95,8 @@ is-allowed-spec =
     enum-told-7
     enum-told-8
     enum-told-9
+    some-without-requires-5
+    enum-told-10
     returns
     returns-2
     returns-3
@@ -94,4 +105,5 @@ is-allowed-spec =
     returns-6
     returns-7
     returns-8
-    returns-9)
+    returns-9
+    returns-10)

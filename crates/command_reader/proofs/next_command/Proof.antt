@@ -64,8 +64,7 @@ take-command-requires c κs = search needs
 returns-4 : tie.Need-returns-4
 unfolding nextAt
 returns-4 c =
-    let c3 = c .before .before .before in
-    let i = c3 in
+    let i = c .before .before .before .before in
     let h = i .before in
     let s = h .before in
     let p = s .before in

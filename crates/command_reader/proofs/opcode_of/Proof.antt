@@ -38,9 +38,14 @@ returns-8 c = rw (c .match .keys8)
 
 returns-9 : tie.Need-returns-9
 unfolding opcode
-returns-9 c =
+returns-9 c = rw (c .match .keys9)
+
+returns-10 : tie.Need-returns-10
+unfolding opcode
+returns-10 c =
     let m = c .before in
     rw (
+      ne-eqb _ _ (m .match .rest .0 .0 .0 .0 .0 .0 .0 .0 .1),
       ne-eqb _ _ (m .match .rest .0 .0 .0 .0 .0 .0 .0 .1),
       ne-eqb _ _ (m .match .rest .0 .0 .0 .0 .0 .0 .1),
       ne-eqb _ _ (m .match .rest .0 .0 .0 .0 .0 .1),
@@ -51,11 +56,12 @@ returns-9 c =
       ne-eqb _ _ (m .match .rest .1),
     )
 
-returns-10 : tie.Need-returns-10
+returns-11 : tie.Need-returns-11
 unfolding opcode
-returns-10 c =
+returns-11 c =
     let m = c .before in
     rw (
+      ne-eqb _ _ (m .match .rest .0 .0 .0 .0 .0 .0 .0 .0 .1),
       ne-eqb _ _ (m .match .rest .0 .0 .0 .0 .0 .0 .0 .1),
       ne-eqb _ _ (m .match .rest .0 .0 .0 .0 .0 .0 .1),
       ne-eqb _ _ (m .match .rest .0 .0 .0 .0 .0 .1),
@@ -79,4 +85,5 @@ opcode-of-spec =
     returns-7
     returns-8
     returns-9
-    returns-10)
+    returns-10
+    returns-11)

@@ -51,6 +51,12 @@ take-tied-requires c κs = search needs
 enum-told-9 : tie.Need-enum-told-9
 enum-told-9 c = search needs
 
+take-gather-requires : tie.Need-take-gather-requires
+take-gather-requires c κs = search needs
+
+enum-told-10 : tie.Need-enum-told-10
+enum-told-10 c = search needs
+
 returns : tie.Need-returns
 returns c = rw (c .enum-told .given .1)
 
@@ -76,7 +82,10 @@ returns-8 : tie.Need-returns-8
 returns-8 c = rw (c .before .enum-told8 .given .1, c .take-tied .ensures)
 
 returns-9 : tie.Need-returns-9
-returns-9 c = rw (c .enum-told9 .given .1)
+returns-9 c = rw (c .before .enum-told9 .given .1, c .take-gather .ensures)
+
+returns-10 : tie.Need-returns-10
+returns-10 c = rw (c .enum-told10 .given .1)
 
 pub take-command-spec : {M : Type 1} → statement M
 take-command-spec =
@@ -98,6 +107,8 @@ take-command-spec =
     enum-told-8
     take-tied-requires
     enum-told-9
+    take-gather-requires
+    enum-told-10
     returns
     returns-2
     returns-3
@@ -106,4 +117,5 @@ take-command-spec =
     returns-6
     returns-7
     returns-8
-    returns-9)
+    returns-9
+    returns-10)

@@ -1,6 +1,6 @@
 -- `expression_reader::takes_of` meets its contract: by the command byte, ranges by the numbers in them.
 use mathlib.Core.Path.{_≡_}
-use Rattle.expression_reader.proofs.Opcodes.{takes-two, takes-two', takes-none-below, takes-none-above}
+use Rattle.expression_reader.proofs.Opcodes.{takes-two, takes-two', takes-list, takes-none-below, takes-none-above}
 use native.Mathlib.Omega.{arith}
 use Rattle.formula.specs.Read.{exprOpcode}
 use Rattle.expression_reader.proofs.takes_of.Statement.{statement}
@@ -42,8 +42,11 @@ returns-8 c =
 
 returns-9 : tie.Need-returns-9
 returns-9 c =
-    let n0 : c .before .before .before .before .args .op ≡ 0x2B → ⊥ = λ e. c .before .before .before .match .rest .1 e in
-    takes-none-above (c .before .before .before .before .args .op) (omega arith)
+    let m = c .before .before .before .before in
+    takes-list (m .before .args .op) (c .before .if3 .left) (m .match .rest .1) (c .if4 .taken)
+
+returns-10 : tie.Need-returns-10
+returns-10 c = takes-none-above (c .before .before .before .before .before .args .op) (c .if4 .left)
 
 pub takes-of-spec : {M : Type 1} → statement M
 takes-of-spec =
@@ -57,4 +60,5 @@ takes-of-spec =
     returns-6
     returns-7
     returns-8
-    returns-9)
+    returns-9
+    returns-10)

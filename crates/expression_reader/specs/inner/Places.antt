@@ -4,7 +4,7 @@ use mathlib.Core.Bool.{Bool, false, cond, not}
 use mathlib.Core.List.{List}
 use lib.Dec.{ltb}
 use lib.ListN.{length, getD, set}
-use Rattle.formula.specs.Formula.{Leaf, CONST, VAR, COUNT, Expr, LEAF, ADD, SUB, LESS, ATMOST, EQUAL, NOT, AND, OR, IF}
+use Rattle.formula.specs.Formula.{Leaf, CONST, VAR, COUNT, SUM, LENGTH, DIFFERENT, Expr, LEAF, ADD, SUB, LESS, ATMOST, EQUAL, NOT, AND, OR, IF}
 use Rattle.formula.specs.Encode.{encodeExpr}
 
 -- the place of a key that nothing names, above all places
@@ -28,6 +28,9 @@ abbrev pub leafNoted : ℕ → List Bool → ℕ → Leaf → List ℕ → List 
 leafNoted s own at (CONST x) places = places
 leafNoted s own at (VAR v) places = varNoted s own v at places
 leafNoted s own at (COUNT t) places = noted places (stateKey t) at
+leafNoted s own at (SUM v) places = places
+leafNoted s own at (LENGTH v) places = places
+leafNoted s own at (DIFFERENT v) places = places
 
 -- the leaves of an expression at `at`
 unfoldable pub leavesNoted : ℕ → List Bool → ℕ → Expr → List ℕ → List ℕ

@@ -8,12 +8,13 @@ use Rattle.refusal.specs.declared.File.the-variants.{Formula as InFormula}
 use Rattle.refusal.specs.declared.Refusal.{Refusal}
 use Rattle.refusal.specs.declared.Refusal.the-variants.{CutShort, Foreign, Value, Surplus}
 use Rattle.expression_reader.specs.declared.Takes.{Takes}
-use Rattle.expression_reader.specs.declared.Takes.the-variants.{Value as TakesValue, Variable as TakesVariable, State as TakesState, Operands}
-use Rattle.expression_reader.specs.declared.Takes.the-variants.{Foreign as TakesNothing}
+use Rattle.expression_reader.specs.declared.Takes.the-variants.{Value as TakesValue, Variable as TakesVariable, State as TakesState, List as TakesList}
+use Rattle.expression_reader.specs.declared.Takes.the-variants.{Operands, Foreign as TakesNothing}
 use Rattle.expression_reader.specs.declared.Prefix.{Prefix}
 use Rattle.expression_reader.specs.declared.ExprRead.{ExprRead}
 use Rattle.expression_reader.specs.declared.ExprRead.the-variants.{Taken, Bad}
-use Rattle.formula.specs.Read.{ExprOpcode, const-op, var-op, count-op, unary, binary, ternary, foreign-op, exprOpcode, ExprNext, expression, failed}
+use Rattle.formula.specs.Read.{ExprOpcode, const-op, var-op, count-op, list-op, unary, binary, ternary, foreign-op, exprOpcode, isList, ExprNext}
+use Rattle.formula.specs.Read.{expression, failed}
 use Rattle.expression_reader.specs.inner.Places.{noted, stateKey, varNoted, leavesNoted}
 
 -- what an expression command takes
@@ -21,6 +22,7 @@ abbrev pub takes : ExprOpcode → Takes
 takes const-op = TakesValue
 takes var-op = TakesVariable
 takes count-op = TakesState
+takes (list-op mk) = TakesList
 takes (unary mk) = Operands 1
 takes (binary mk) = Operands 2
 takes (ternary mk) = Operands 3
@@ -31,6 +33,7 @@ abbrev pub over : Takes → ℕ → ExprRead
 over TakesValue at = Bad (Surplus InFormula at)
 over TakesVariable at = Bad (Surplus InFormula at)
 over TakesState at = Bad (Surplus InFormula at)
+over TakesList at = Bad (Surplus InFormula at)
 over (Operands n) at = Bad (Surplus InFormula at)
 over TakesNothing at = Bad (Foreign InFormula at)
 
@@ -55,7 +58,7 @@ front used left n = record { used = used; left = left; operands = n }
 abbrev pub command : ℕ → ℕ → ℕ → ExprRead
 command used left n = Taken (front used left n)
 
--- a CONST, VAR, COUNT at `at`, where bs begins
+-- a CONST, VAR, COUNT, or one of a list, at `at`, where bs begins
 unfoldable pub constHead : ℕ → ℕ → List ℕ → ExprRead
 constHead left at bs = cond (ltb (length bs) 5) (Bad (CutShort InFormula at)) (command 5 left 0)
 
@@ -67,11 +70,16 @@ varHead s own left at bs places =
 unfoldable pub countHead : ℕ → ℕ → List ℕ → List ℕ → ExprEnd
 countHead left at bs places = cond (ltb (length bs) 2) (broken (CutShort InFormula at)) (whole (front 2 left 0) (noted places (stateKey (getD bs 1 0)) at))
 
+unfoldable pub listHead : ℕ → ℕ → List ℕ → ExprRead
+listHead left at bs =
+    cond (ltb (length bs) 2) (Bad (CutShort InFormula at)) (cond (isList (getD bs 1 0)) (command 2 left 0) (Bad (Value InFormula at)))
+
 -- an expression command at `at`, where bs begins, in a step of state s that binds the variables marked
 abbrev pub headOf : ℕ → List Bool → ℕ → ℕ → List ℕ → List ℕ → Takes → ExprEnd
 headOf s own left at bs places TakesValue = endOf (constHead left at bs) places
 headOf s own left at bs places TakesVariable = varHead s own left at bs places
 headOf s own left at bs places TakesState = countHead left at bs places
+headOf s own left at bs places TakesList = endOf (listHead left at bs) places
 headOf s own left at bs places (Operands n) = whole (front 1 left n) places
 headOf s own left at bs places TakesNothing = broken (Foreign InFormula at)
 

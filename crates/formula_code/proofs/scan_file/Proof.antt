@@ -155,10 +155,12 @@ steps-after-requires c κs =
 advance-requires : tie.Need-advance-requires Inv-loop μ-loop
 advance-requires c κs =
     let c17 = c .before .before .before .before .before .before .before .before .before .before .before .before .before .before .before .before .before in
-    let q =
-    c17
-    .before .before .before .before .before .before .before in
-    q .loop .inv .counted
+    let n = c17 in
+    let k = n .before .before in
+    let q = k .before .before .before .before .before in
+    let s = q .before .before .before in
+    let f = taken-facts (s .args .fields) (s .args .l .now) _ (q .loop .inv) (n .next .given .1) (k .next-command .ensures) in
+    (q .loop .inv .counted, f .ready)
 
 add-d : tie.Need-add-d Inv-loop μ-loop
 add-d c =

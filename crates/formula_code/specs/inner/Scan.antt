@@ -11,7 +11,7 @@ use Rattle.refusal.specs.declared.Refusal.the-variants.{CutShort}
 use Rattle.refusal.specs.declared.Acceptance.the-variants.{Accepted, Refused}
 use Rattle.formula.specs.declared.Summary.{Summary}
 use Rattle.command_reader.specs.declared.Command.{Command as Kept}
-use Rattle.command_reader.specs.declared.Command.the-variants.{Tied, State, Step, Test, Testv, Bind, Guard}
+use Rattle.command_reader.specs.declared.Command.the-variants.{Tied, State, Step, Test, Testv, Bind, Gather, Guard}
 use Rattle.command_reader.specs.declared.Next.{Next as Read}
 use Rattle.command_reader.specs.declared.Next.the-variants.{Taken, End, Bad}
 use Rattle.formula_code.specs.declared.Draft.{Draft}
@@ -35,6 +35,7 @@ Ready s (Step t) = (0 < s .states) × (s .steps < 8)
 Ready s Test = (0 < s .steps) × (s .clauses < 8)
 Ready s (Testv v) = (0 < s .steps) × (s .clauses < 8) × (v < 8)
 Ready s (Bind v) = (0 < s .steps) × (s .clauses < 8) × (v < 8)
+Ready s (Gather v) = (0 < s .steps) × (s .clauses < 8) × (v < 4)
 Ready s Guard = 0 < s .steps
 
 -- the steps counted are those of the states before and of this one
@@ -43,19 +44,56 @@ pub record Within (s : Summary) (count : ℕ) : Type 0 where
   pub least : s .steps ≤ count
   pub some : 0 < s .steps → 0 < s .states
 
--- the summary after one more test or bind
+-- the summary after one more clause, which leaves these lists marked
+abbrev pub clauseWith : Summary → List Bool → Summary
+clauseWith s seen =
+    record {
+      tied = s .tied;
+      states = s .states;
+      closed = s .closed;
+      steps = s .steps;
+      clauses = s .clauses + 1;
+      guarded = s .guarded;
+      gathered = seen;
+    }
+
+-- after one more test or bind, and after one more GATHER, into list v
 abbrev pub clauseMore : Summary → Summary
-clauseMore s = record { tied = s .tied; states = s .states; closed = s .closed; steps = s .steps; clauses = s .clauses + 1; guarded = s .guarded }
+clauseMore s = clauseWith s (s .gathered)
+
+abbrev pub gatherMore : Summary → ℕ → Summary
+gatherMore s v = clauseWith s (set (s .gathered) v true)
 
 -- the summary after one more command
 abbrev pub advanceBy : Summary → Kept → Summary
-advanceBy s (Tied v) = record { tied = s .tied + 1; states = s .states; closed = s .closed; steps = s .steps; clauses = s .clauses; guarded = s .guarded }
-advanceBy s (State k) = record { tied = s .tied; states = s .states + 1; closed = ltb 1 k; steps = 0; clauses = 0; guarded = false }
-advanceBy s (Step t) = record { tied = s .tied; states = s .states; closed = s .closed; steps = s .steps + 1; clauses = 0; guarded = false }
+advanceBy s (Tied v) =
+    record {
+      tied = s .tied + 1;
+      states = s .states;
+      closed = s .closed;
+      steps = s .steps;
+      clauses = s .clauses;
+      guarded = s .guarded;
+      gathered = s .gathered;
+    }
+advanceBy s (State k) =
+    record { tied = s .tied; states = s .states + 1; closed = ltb 1 k; steps = 0; clauses = 0; guarded = false; gathered = replicate 4 false }
+advanceBy s (Step t) =
+    record { tied = s .tied; states = s .states; closed = s .closed; steps = s .steps + 1; clauses = 0; guarded = false; gathered = replicate 4 false }
 advanceBy s Test = clauseMore s
 advanceBy s (Testv v) = clauseMore s
 advanceBy s (Bind v) = clauseMore s
-advanceBy s Guard = record { tied = s .tied; states = s .states; closed = s .closed; steps = s .steps; clauses = s .clauses; guarded = true }
+advanceBy s (Gather v) = gatherMore s v
+advanceBy s Guard =
+    record {
+      tied = s .tied;
+      states = s .states;
+      closed = s .closed;
+      steps = s .steps;
+      clauses = s .clauses;
+      guarded = true;
+      gathered = s .gathered;
+    }
 
 -- after one more command: the kinds of the states
 abbrev pub kindsWith : List ℕ → ℕ → Kept → List ℕ
@@ -65,6 +103,7 @@ kindsWith kinds states (Step t) = kinds
 kindsWith kinds states Test = kinds
 kindsWith kinds states (Testv v) = kinds
 kindsWith kinds states (Bind v) = kinds
+kindsWith kinds states (Gather v) = kinds
 kindsWith kinds states Guard = kinds
 
 -- where the steps begin
@@ -75,6 +114,7 @@ tableWith table s at (Step t) = set table ((s .states - 1) * 8 + s .steps) at
 tableWith table s at Test = table
 tableWith table s at (Testv v) = table
 tableWith table s at (Bind v) = table
+tableWith table s at (Gather v) = table
 tableWith table s at Guard = table
 
 -- the tied variables
@@ -85,6 +125,7 @@ tiesWith ties (Step t) = ties
 tiesWith ties Test = ties
 tiesWith ties (Testv v) = ties
 tiesWith ties (Bind v) = ties
+tiesWith ties (Gather v) = ties
 tiesWith ties Guard = ties
 
 -- the number of steps
@@ -95,6 +136,7 @@ countWith count (Step t) = count + 1
 countWith count Test = count
 countWith count (Testv v) = count
 countWith count (Bind v) = count
+countWith count (Gather v) = count
 countWith count Guard = count
 
 -- the states that the steps stand in
@@ -105,6 +147,7 @@ fromWith from count states (Step t) = set from count (states - 1)
 fromWith from count states Test = from
 fromWith from count states (Testv v) = from
 fromWith from count states (Bind v) = from
+fromWith from count states (Gather v) = from
 fromWith from count states Guard = from
 
 -- the targets of the steps
@@ -115,6 +158,7 @@ toWith to count (Step t) = set to count t
 toWith to count Test = to
 toWith to count (Testv v) = to
 toWith to count (Bind v) = to
+toWith to count (Gather v) = to
 toWith to count Guard = to
 
 -- the variables that the steps bind
@@ -125,6 +169,7 @@ boundWith bound count (Step t) = bound
 boundWith bound count Test = bound
 boundWith bound count (Testv v) = bound
 boundWith bound count (Bind v) = set bound ((count - 1) * 8 + v) true
+boundWith bound count (Gather v) = bound
 boundWith bound count Guard = bound
 
 -- the variables that the last step binds
@@ -135,6 +180,7 @@ ownWith own (Step t) = replicate 8 false
 ownWith own Test = own
 ownWith own (Testv v) = own
 ownWith own (Bind v) = set own v true
+ownWith own (Gather v) = own
 ownWith own Guard = own
 
 -- the places, with a STEP and a TESTV at `at`
@@ -145,6 +191,7 @@ placesWith places states at (Step t) = noted places (stateKey t) at
 placesWith places states at Test = places
 placesWith places states at (Testv v) = noted places (v * 16 + (states - 1)) at
 placesWith places states at (Bind v) = places
+placesWith places states at (Gather v) = places
 placesWith places states at Guard = places
 
 -- what was kept, and one more command of `used` bytes, with the places after it was read
@@ -169,7 +216,7 @@ unfoldable pub emptyDraft : Draft
 emptyDraft =
     record {
       at = 0;
-      summary = record { tied = 0; states = 0; closed = false; steps = 0; clauses = 0; guarded = false };
+      summary = record { tied = 0; states = 0; closed = false; steps = 0; clauses = 0; guarded = false; gathered = replicate 4 false };
       kinds = replicate 16 0;
       table = replicate 128 0;
       ties = replicate 8 false;

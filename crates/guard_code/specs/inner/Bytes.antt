@@ -7,6 +7,7 @@ use lib.Dec.{ltb, leb, eqb}
 use Rattle.base.specs.Value.{valueAt}
 use Rattle.guard_code.specs.declared.Evaluated.{Evaluated}
 use Rattle.guard_code.specs.declared.Judged.{Judged}
+use Rattle.guard_code.specs.declared.Marks.{Marks}
 use Rattle.base.specs.Mask.{bit}
 use Rattle.machine.specs.Guard.{truth}
 
@@ -27,13 +28,16 @@ applied c a b d =
     (cond (eqb c 0x2A) (bit (truth a || truth b))
     (cond (truth a) b d))))))))
 
--- the value of the command without operands at the front
-unfoldable pub leafValue : List ℕ → List ℕ → List ℕ → ℕ
-leafValue values counters part =
+-- the value of the command without operands at the front; tallies has the sums, the lengths and the numbers of different values of the 4 lists
+unfoldable pub leafValue : List ℕ → List ℕ → List ℕ → List ℕ → ℕ
+leafValue values counters tallies part =
     cond (eqb (getD part 0 0) 0x20) (valueAt part 1)
     (cond (eqb (getD part 0 0) 0x21) (getD values (getD part 1 0) 0)
     (cond (eqb (getD part 0 0) 0x22) (getD counters (getD part 1 0) 0)
-    0))
+    (cond (eqb (getD part 0 0) 0x2C) (getD tallies (getD part 1 0 - 8) 0)
+    (cond (eqb (getD part 0 0) 0x2D) (getD tallies (getD part 1 0 - 4) 0)
+    (cond (eqb (getD part 0 0) 0x2E) (getD tallies (getD part 1 0) 0)
+    0)))))
 
 -- its bytes, as far as there are any
 abbrev pub leafWidth : ℕ → ℕ
@@ -41,7 +45,10 @@ leafWidth c =
     cond (eqb c 0x20) 5
     (cond (eqb c 0x21) 2
     (cond (eqb c 0x22) 2
-    0))
+    (cond (eqb c 0x2C) 2
+    (cond (eqb c 0x2D) 2
+    (cond (eqb c 0x2E) 2
+    0)))))
 
 unfoldable pub leafUsed : List ℕ → ℕ
 leafUsed part = min (leafWidth (getD part 0 0)) (length part)
@@ -84,11 +91,13 @@ kept c = cond (eqb c 0x23) true (cond (eqb c 0x29) true (cond (eqb c 0x2A) true 
 abbrev pub judgement : Bool → ℕ → Judged
 judgement b n = record { yes = b; used = n }
 
--- "constants, counters .. are both"; a variable is what its mark says
-unfoldable pub leafMarked : List Bool → List ℕ → Bool
+-- "constants, counters .. are both", and a length; any other leaf is what its mark says
+unfoldable pub leafMarked : Marks → List ℕ → Bool
 leafMarked marks part =
-    cond (eqb (getD part 0 0) 0x21) (getD marks (getD part 1 0) false)
-    true
+    cond (eqb (getD part 0 0) 0x21) (getD (marks .variables) (getD part 1 0) false)
+    (cond (eqb (getD part 0 0) 0x2C) (getD (marks .sums) (getD part 1 0 - 8) false)
+    (cond (eqb (getD part 0 0) 0x2E) (getD (marks .differents) (getD part 1 0 - 8) false)
+    true))
 
 -- a command of two operands that are both so, one of three, and one operand judged both ways
 unfoldable pub paired : Judged → Judged → Judged

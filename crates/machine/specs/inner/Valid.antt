@@ -1,16 +1,10 @@
 -- What holds of every configuration that a run reaches.
-use Prim.Native.Nat.{ℕ, _+_, _<_}
+use Prim.Native.Nat.{ℕ, _<_}
 use mathlib.Core.Path.{_≡_}
 use mathlib.Core.Bool.{false}
-use mathlib.Core.List.{List, [], _∷_}
 use lib.ListN.{length, getD}
 use Rattle.base.specs.Lists.{All}
 use Rattle.machine.specs.Configuration.{Config}
-
--- the counters added up: the number of steps taken
-abbrev pub total : List ℕ → ℕ
-total [] = 0
-total (x ∷ xs) = x + total xs
 
 -- what holds of every configuration that a run reaches, in a formula with so many states
 pub record Valid (states : ℕ) (c : Config) : Type 0 where
@@ -19,4 +13,5 @@ pub record Valid (states : ℕ) (c : Config) : Type 0 where
   pub values-8 : length (c .values) ≡ 8
   pub counters-16 : length (c .counters) ≡ 16
   pub unheld-0 : (v : ℕ) → getD (c .held) v false ≡ false → getD (c .values) v 0 ≡ 0
+  pub lists-4 : length (c .lists) ≡ 4
   pub fits : All (λ x. x < 4294967296) (c .values)

@@ -1,5 +1,5 @@
 -- What the code computes on any bytes, well formed or not: a twin of each definition on byte lists.
-use Prim.Native.Nat.{ℕ, zero, suc, _+_, _*_, min}
+use Prim.Native.Nat.{ℕ, zero, suc, _+_, _-_, _*_, min}
 use mathlib.Core.Bool.{Bool, true, false, not, _&&_, _||_, cond}
 use mathlib.Core.List.{List}
 use lib.ListN.{length, getD, set, replicate}
@@ -9,6 +9,8 @@ use Rattle.machine_code.specs.declared.Configuration.{Configuration}
 use Rattle.machine_code.specs.declared.Fired.{Fired}
 use Rattle.machine_code.specs.declared.Walked.{Walked}
 use Rattle.machine.specs.Configuration.{Config}
+use Rattle.machine.specs.inner.Along.{tallyAdd}
+use Rattle.guard_code.specs.declared.Marks.{Marks}
 use Rattle.guard_code.specs.inner.Bytes.{leafValue, guardAt, leafMarked, fallsAt}
 
 -- an operator's byte against two values; a byte above 5 counts as 5
@@ -19,9 +21,9 @@ holdsBy o x y =
 unfoldable pub missedBy : ℕ → ℕ → ℕ → Bool
 missedBy o x y = cond (eqb o 2) (not (ltb x y)) (cond (eqb o 4) (not (leb x y)) false)
 
--- "12 TEST, 13 TESTV, 14 BIND"
+-- "12 TEST, 13 TESTV, 14 BIND", "17 GATHER"
 unfoldable pub isClause : ℕ → Bool
-isClause c = cond (ltb c 0x12) false (ltb c 0x15)
+isClause c = cond (eqb c 0x17) true (cond (ltb c 0x12) false (ltb c 0x15))
 
 -- a TEST or TESTV of a field's value x against y; `rises` says whether the field does
 unfoldable pub tested : Walked → ℕ → ℕ → ℕ → ℕ → Bool → Walked
@@ -32,13 +34,26 @@ tested w next o x y rises = record {
   held = w .held;
   values = w .values;
   grows = w .grows;
+  tallies = w .tallies;
+  rising = w .rising;
+  unchanged = w .unchanged;
 }
 
 -- variable v holds x, unless it is held already
 unfoldable pub holding : Walked → ℕ → ℕ → Bool → Walked
 holding w v x rises =
     cond (getD (w .held) v false) w
-    (record { at = w .at; passes = w .passes; due = w .due; held = set (w .held) v true; values = set (w .values) v x; grows = set (w .grows) v rises })
+    (record {
+      at = w .at;
+      passes = w .passes;
+      due = w .due;
+      held = set (w .held) v true;
+      values = set (w .values) v x;
+      grows = set (w .grows) v rises;
+      tallies = w .tallies;
+      rising = w .rising;
+      unchanged = w .unchanged;
+    })
 
 -- a BIND of variable v to a field's value x
 abbrev pub boundIn : Walked → Walked → ℕ → ℕ → ℕ → Walked
@@ -49,61 +64,123 @@ boundIn w d next v x = record {
   held = d .held;
   values = d .values;
   grows = d .grows;
+  tallies = w .tallies;
+  rising = w .rising;
+  unchanged = w .unchanged;
 }
 
 unfoldable pub bound : Walked → ℕ → ℕ → ℕ → Bool → Walked
 bound w next v x rises = boundIn w (holding w v x rises) next v x
 
+-- list i gains a field's value x; `new` says that no value of the list equals it
+unfoldable pub gaining : Walked → ℕ → ℕ → ℕ → Bool → Bool → Walked
+gaining w next i x rises new = record {
+  at = next;
+  passes = w .passes;
+  due = w .due;
+  held = w .held;
+  values = w .values;
+  grows = w .grows;
+  tallies = tallyAdd (w .tallies) i x new;
+  rising = set (w .rising) i (getD (w .rising) i false && rises);
+  unchanged = set (w .unchanged) i false;
+}
+
+-- a walk behind a clause that does nothing
+abbrev pub onward : Walked → ℕ → Walked
+onward w next = record {
+  at = next;
+  passes = w .passes;
+  due = w .due;
+  held = w .held;
+  values = w .values;
+  grows = w .grows;
+  tallies = w .tallies;
+  rising = w .rising;
+  unchanged = w .unchanged;
+}
+
+-- a GATHER of field g's value x into the list written o; `fresh` says at i * 8 + g that no value of list i equals it
+unfoldable pub gained : Walked → ℕ → ℕ → ℕ → ℕ → Bool → List Bool → Walked
+gained w next g o x rises fresh = cond (ltb (o - 8) 4) (gaining w next (o - 8) x rises (getD fresh ((o - 8) * 8 + g) false)) (onward w next)
+
 -- the clause where the walk stands; `prior` are the values held before the step
-unfoldable pub clauseAt : List ℕ → List ℕ → List Bool → List ℕ → Walked → Walked
-clauseAt f prior rises event w =
+unfoldable pub clauseAt : List ℕ → List ℕ → List Bool → List Bool → List ℕ → Walked → Walked
+clauseAt f prior fresh rises event w =
     cond (eqb (getD f (w .at) 0) 0x12)
     (tested w (w .at + 7) (getD f (w .at + 2) 0) (getD event (getD f (w .at + 1) 0) 0) (valueAt f (w .at + 3)) (getD rises (getD f (w .at + 1) 0) false))
     (cond (eqb (getD f (w .at) 0) 0x13)
     (tested w (w .at + 4) (getD f (w .at + 2) 0) (getD event (getD f (w .at + 1) 0) 0) (getD prior (getD f (w .at + 3) 0) 0)
     (getD rises (getD f (w .at + 1) 0) false))
-    (bound w (w .at + 3) (getD f (w .at + 2) 0) (getD event (getD f (w .at + 1) 0) 0) (getD rises (getD f (w .at + 1) 0) false)))
+    (cond (eqb (getD f (w .at) 0) 0x17)
+    (gained w (w .at + 3) (getD f (w .at + 1) 0) (getD f (w .at + 2) 0) (getD event (getD f (w .at + 1) 0) 0) (getD rises (getD f (w .at + 1) 0) false) fresh)
+    (bound w (w .at + 3) (getD f (w .at + 2) 0) (getD event (getD f (w .at + 1) 0) 0) (getD rises (getD f (w .at + 1) 0) false))))
 
 -- the clauses from where the walk stands on, up to the first byte that is no clause's command
-unfoldable pub walkFrom : ℕ → List ℕ → List ℕ → List Bool → List ℕ → Walked → Walked
-walkFrom zero f prior rises event w = w
-walkFrom (suc n) f prior rises event w = cond (isClause (getD f (w .at) 0)) (walkFrom n f prior rises event (clauseAt f prior rises event w)) w
+unfoldable pub walkFrom : ℕ → List ℕ → List ℕ → List Bool → List Bool → List ℕ → Walked → Walked
+walkFrom zero f prior fresh rises event w = w
+walkFrom (suc n) f prior fresh rises event w =
+    cond (isClause (getD f (w .at) 0)) (walkFrom n f prior fresh rises event (clauseAt f prior fresh rises event w)) w
 
 -- a walk begins behind the STEP and its target, with what the configuration holds
 unfoldable pub begun : ℕ → Configuration → Walked
-begun at c = record { at = at + 2; passes = true; due = false; held = c .held; values = c .values; grows = c .held }
+begun at c = record {
+  at = at + 2;
+  passes = true;
+  due = false;
+  held = c .held;
+  values = c .values;
+  grows = c .held;
+  tallies = c .tallies;
+  rising = replicate 4 true;
+  unchanged = replicate 4 true;
+}
 
 -- the clauses of the STEP at an offset
-unfoldable pub walked : List ℕ → ℕ → Configuration → List Bool → List ℕ → Walked
-walked f at c rises event = walkFrom (suc (length f)) f (c .values) rises event (begun at c)
+unfoldable pub walked : List ℕ → ℕ → Configuration → List Bool → List Bool → List ℕ → Walked
+walked f at c fresh rises event = walkFrom (suc (length f)) f (c .values) fresh rises event (begun at c)
 
 -- one added to a state's counter; a counter stops at 4294967295
 unfoldable pub raised : List ℕ → ℕ → List ℕ
 raised counters s = set counters s (min (getD counters s 0 + 1) 4294967295)
 
--- what a step leaves: its target, what the walk has bound, the counters raised
+-- what a step leaves: its target, what the walk has bound and gathered, the counters raised
 abbrev pub leaving : ℕ → Walked → List ℕ → Configuration
-leaving target w counters = record { state = target; held = w .held; values = w .values; counters = counters }
+leaving target w counters = record { state = target; held = w .held; values = w .values; counters = counters; tallies = w .tallies }
+
+-- the guard behind the walk, with the counters raised
+abbrev pub guardBehind : List ℕ → Walked → List ℕ → Bool
+guardBehind f w counters = guardAt (leafValue (w .values) counters (w .tallies)) f (w .at)
 
 abbrev pub firedBy : List ℕ → ℕ → Walked → List ℕ → Fired
-firedBy f at w counters = record { fires = w .passes && guardAt (leafValue (w .values) counters) f (w .at); config = leaving (getD f (at + 1) 0) w counters }
+firedBy f at w counters = record { fires = w .passes && guardBehind f w counters; config = leaving (getD f (at + 1) 0) w counters }
 
 -- whether the STEP at an offset fires, and the configuration that it leaves; past the end there is no step
-unfoldable pub fired : List ℕ → ℕ → Configuration → List ℕ → Fired
-fired f at c event =
+unfoldable pub fired : List ℕ → ℕ → Configuration → List Bool → List ℕ → Fired
+fired f at c fresh event =
     cond (leb (length f) at) (record { fires = false; config = c })
-    (firedBy f at (walked f at c (replicate 8 false) event) (raised (c .counters) (c .state)))
+    (firedBy f at (walked f at c fresh (replicate 8 false) event) (raised (c .counters) (c .state)))
 
--- the configuration that the code holds
-abbrev pub configOf : Configuration → Config
-configOf c = record { state = c .state; held = c .held; values = c .values; counters = c .counters }
+-- the configuration that the code holds, with its lists, which it does not hold
+abbrev pub configOf : List (List ℕ) → Configuration → Config
+configOf ls c = record { state = c .state; held = c .held; values = c .values; counters = c .counters; lists = ls }
+
+-- the leaves that are falling behind a walk, by the variables held before it, and those that are rising
+abbrev pub falling : List Bool → Walked → Marks
+falling held w = record { variables = held; sums = w .unchanged; differents = w .unchanged }
+
+abbrev pub growing : Walked → Marks
+growing w = record { variables = w .grows; sums = w .rising; differents = w .unchanged }
+
+abbrev pub fallsBehind : List ℕ → List Bool → Walked → Bool
+fallsBehind f held w = fallsAt (leafMarked (falling held w)) (leafMarked (growing w)) f (w .at)
 
 -- the STEP at an offset is expired by an event's values; past the end there is no step
 abbrev pub lapsedBy : List ℕ → List Bool → Walked → List ℕ → Bool
-lapsedBy f held w counters = w .due || (fallsAt (leafMarked held) (leafMarked (w .grows)) f (w .at) && not (guardAt (leafValue (w .values) counters) f (w .at)))
+lapsedBy f held w counters = w .due || (fallsBehind f held w && not (guardBehind f w counters))
 
-unfoldable pub lapsed : List ℕ → ℕ → Configuration → List Bool → List ℕ → Bool
-lapsed f at c rises event = cond (leb (length f) at) true (lapsedBy f (c .held) (walked f at c rises event) (raised (c .counters) (c .state)))
+unfoldable pub lapsed : List ℕ → ℕ → Configuration → List Bool → List Bool → List ℕ → Bool
+lapsed f at c fresh rises event = cond (leb (length f) at) true (lapsedBy f (c .held) (walked f at c fresh rises event) (raised (c .counters) (c .state)))
 
 -- where step k of state s stands, by the table of offsets; 0 where there is none
 unfoldable pub offsetOf : List ℕ → ℕ → ℕ → ℕ
@@ -113,11 +190,11 @@ unfoldable pub isStep : List ℕ → ℕ → Bool
 isStep f at = cond (eqb at 0) false (ltb at (length f))
 
 -- step k of the configuration's state fires on the event; it is expired by its values, as is one that is not there
-unfoldable pub firesAt : List ℕ → List ℕ → Configuration → List ℕ → ℕ → Bool
-firesAt f table c event k = isStep f (offsetOf table (c .state) k) && (fired f (offsetOf table (c .state) k) c event) .fires
+unfoldable pub firesAt : List ℕ → List ℕ → Configuration → List Bool → List ℕ → ℕ → Bool
+firesAt f table c fresh event k = isStep f (offsetOf table (c .state) k) && (fired f (offsetOf table (c .state) k) c fresh event) .fires
 
-unfoldable pub expiresAt : List ℕ → List ℕ → Configuration → List Bool → List ℕ → ℕ → Bool
-expiresAt f table c rises event k = not (isStep f (offsetOf table (c .state) k)) || lapsed f (offsetOf table (c .state) k) c rises event
+unfoldable pub expiresAt : List ℕ → List ℕ → Configuration → List Bool → List Bool → List ℕ → ℕ → Bool
+expiresAt f table c fresh rises event k = not (isStep f (offsetOf table (c .state) k)) || lapsed f (offsetOf table (c .state) k) c fresh rises event
 
 -- "the lowest numbered step that fires": the first of n numbers from k on that passes the test, else the number behind them
 unfoldable pub lowestFrom : (ℕ → Bool) → ℕ → ℕ → ℕ

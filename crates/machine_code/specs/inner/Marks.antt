@@ -11,7 +11,7 @@ use Rattle.machine_code.specs.inner.Bytes.{holdsBy, missedBy, fired, lap
 
 -- the bytes of a clause, by its command; 0 for what is no clause
 unfoldable pub widthOf : ℕ → ℕ
-widthOf c = cond (eqb c 0x12) 7 (cond (eqb c 0x13) 4 (cond (eqb c 0x14) 3 0))
+widthOf c = cond (eqb c 0x12) 7 (cond (eqb c 0x13) 4 (cond (eqb c 0x17) 3 (cond (eqb c 0x14) 3 0)))
 
 -- command c, at p, is a TEST that is false on the event
 unfoldable pub failsAt : List ℕ → ℕ → ℕ → List ℕ → Bool
@@ -27,10 +27,10 @@ pub data Reaches (f : List ℕ) (at : ℕ) : ℕ → Type 0 where
   begins : Reaches f at (at + 2)
   onward : (place : ℕ) → Reaches f at place → (widthOf (getD f place 0) ≡ 0 → ⊥) → Reaches f at (place + widthOf (getD f place 0))
 
--- a step said to be barred by the clause at a place, which is not 0, does not fire on the event, whatever the configuration
+-- a step said to be barred by the clause at a place, which is not 0, does not fire on the event, whatever the configuration and its lists
 abbrev pub BarredIs : List ℕ → ℕ → List ℕ → ℕ → Type 0
-BarredIs f at event r = (r ≡ 0 → ⊥) → ((c : Configuration) → (fired f at c event) .fires ≡ false) × Reaches f at r
+BarredIs f at event r = (r ≡ 0 → ⊥) → ((fresh : List Bool) (c : Configuration) → (fired f at c fresh event) .fires ≡ false) × Reaches f at r
 
--- a step said to be due by its clauses from a place on is expired by these values, whatever the configuration
+-- a step said to be due by its clauses from a place on is expired by these values, whatever the configuration and its lists
 abbrev pub DueIs : List ℕ → ℕ → List Bool → List ℕ → Bool → Type 0
-DueIs f place rises latest r = r ≡ true → (at : ℕ) → Reaches f at place → (c : Configuration) → lapsed f at c rises latest ≡ true
+DueIs f place rises latest r = r ≡ true → (at : ℕ) → Reaches f at place → (fresh : List Bool) (c : Configuration) → lapsed f at c fresh rises latest ≡ true

@@ -84,6 +84,12 @@ enum-known-r-10 c = search needs
 line-requires-11 : tie.Need-line-requires-11
 line-requires-11 c κs = search needs
 
+enum-known-r-11 : tie.Need-enum-known-r-11
+enum-known-r-11 c = search needs
+
+line-requires-12 : tie.Need-line-requires-12
+line-requires-12 c κs = search needs
+
 returns : tie.Need-returns
 returns c =
     let c3 = c .before .before .before in
@@ -127,6 +133,9 @@ returns-10 c = rw (c .line10 .ensures, c .before .before .r9 .given .1)
 returns-11 : tie.Need-returns-11
 returns-11 c = rw (c .line11 .ensures, c .before .before .r10 .given .1)
 
+returns-12 : tie.Need-returns-12
+returns-12 c = rw (c .line12 .ensures, c .before .before .r11 .given .1)
+
 pub report-of-spec : {M : Type 1} → statement M
 report-of-spec =
     tie.close
@@ -158,6 +167,8 @@ report-of-spec =
     line-requires-10
     enum-known-r-10
     line-requires-11
+    enum-known-r-11
+    line-requires-12
     returns
     returns-2
     returns-3
@@ -168,4 +179,5 @@ report-of-spec =
     returns-8
     returns-9
     returns-10
-    returns-11)
+    returns-11
+    returns-12)

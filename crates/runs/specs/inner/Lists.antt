@@ -14,9 +14,9 @@ module _ {A : Type 0} where
   keep p (x ∷ xs) = only (p x) x (keep p xs)
 
   -- what every member gives, in turn
-  unfoldable pub gather : {B : Type 0} → (B → List A) → List B → List A
-  gather f [] = []
-  gather f (x ∷ xs) = f x ++ gather f xs
+  unfoldable pub inTurn : {B : Type 0} → (B → List A) → List B → List A
+  inTurn f [] = []
+  inTurn f (x ∷ xs) = f x ++ inTurn f xs
 
   -- whether a member is the same as a
   unfoldable pub has : (A → A → Bool) → A → List A → Bool

@@ -5,7 +5,7 @@ use mathlib.Core.List.{List, [], _∷_, _++_, map}
 use Prim.Native.Nat.{ℕ, zero, suc, _-_, max, Ordering, Ordering·lt, Ordering·eq, Ordering·gt}
 use lib.Dec.{ltb, leb}
 use lib.ListN.{length, take}
-use Rattle.runs.specs.inner.Lists.{only, keep, gather, distinct}
+use Rattle.runs.specs.inner.Lists.{only, keep, inTurn, distinct}
 use Rattle.runs.specs.Machine.{Machine}
 use Rattle.runs.specs.Run.{Trail}
 use Rattle.runs.specs.inner.Order.{order}
@@ -63,14 +63,14 @@ module _ (M : Machine) where
   offers n th = only (stays n th) th (keep unended (moves n th))
 
   unfoldable pub next : ℕ → List (Thread M) → List (Thread M)
-  next n ths = gather (offers n) ths
+  next n ths = inTurn (offers n) ths
 
   abbrev pub ended : Thread M → Bool
   ended th = final (th .config)
 
   -- the runs that end on event n
   unfoldable pub endings : ℕ → List (Thread M) → List (Thread M)
-  endings n ths = gather (λ (th : Thread M). keep ended (moves n th)) ths
+  endings n ths = inTurn (λ (th : Thread M). keep ended (moves n th)) ths
 
   abbrev pub pick : Ordering → Thread M → Thread M → Thread M
   pick Ordering·lt a b = a

@@ -9,8 +9,8 @@ use Rattle.search_code.proofs.at_event.Tie as tie
 
 slice-aggregate-mark-states : tie.Need-slice-aggregate-mark-states
 slice-aggregate-mark-states c =
-    let c5 = c .before .before .before .before .before in
-    sym (c5 .pre .2)
+    let c7 = c .before .before .before .before .before .before .before in
+    sym (c7 .pre .2)
 
 mark-states-requires : tie.Need-mark-states-requires
 mark-states-requires c κs = search needs
@@ -26,17 +26,16 @@ same-length c = search needs
 
 returns : tie.Need-returns
 returns c =
-    let c2 = c .before .before in
-    let c6 = c2 .before .before .before .before in
-    let c14 = c6 .before .before .before .before .before .before .before .before in
-    let a = c14 .args in
+    let c6 = c .before .before .before .before .before .before in
+    let c16 = c6 .before .before .before .before .before .before .before .before .before .before in
+    let a = c16 .args in
     let f = now (a .f) in
     let rises = a .rules .rises in
     let m = a .moment in
-    let x = c2 .one-event in (
+    let x = c .before .before .one-event in (
       λ steps w.
           let e = wide-steps f steps rises m (now (a .wide)) w _ (c6 .mark-states .ensures .1 (wide-table f steps rises m (now (a .wide)) w)) in
-          turn-of f steps (a .rules) m (a .seats) (now (a .work)) (x .last .0) _ (x .result) e (x .ensures .0),
+          turn-of (now (a .l)) (now (a .places)) f steps (a .rules) m (a .seats) (now (a .work)) (x .last .0) _ (x .result) e (x .ensures .0),
       x .ensures .1,
     )
 

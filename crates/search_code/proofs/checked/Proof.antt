@@ -1,7 +1,7 @@
 -- `search_code::checked` meets its contract.
 use denote.Ref.{now}
 use native.Mathlib.Omega.{arith}
-use mathlib.Core.Path.{refl}
+use mathlib.Core.Path.{_≡_, refl}
 use Rattle.search_code.proofs.Calls.{slots-fit, outside, too-short, searched}
 use lib.ListN.{length}
 use borrow.Author.Needs.{needs}
@@ -24,10 +24,9 @@ refused-requires-2 c κs = search needs
 
 returns-2 : tie.Need-returns-2
 returns-2 c =
-    let c2 = c .before .before in
-    let c8 = c2 .before .before .before .before .before .before in
+    let c8 = c .before .before .before .before .before .before .before .before in
     let a = c8 .args in (
-      too-short (now (a .l)) (now (a .f)) (a .files) (a .start) (now (a .work)) (c .refused2 .result) (c2 .if1 .left)
+      too-short (now (a .l)) (now (a .f)) (a .files) (a .start) (now (a .work)) (c .refused2 .result) (c .before .before .if1 .left)
           (omega (arith, c .before .if2 .taken)) (c .refused2 .ensures),
       (refl, rw (c .refused2 .ensures) (omega arith)),
     )
@@ -38,6 +37,9 @@ slots-of-requires c κs = search needs
 scope-of-requires : tie.Need-scope-of-requires
 scope-of-requires c κs = search needs
 
+places-1024 : (c : tie.Start) → length (c .args .files .log .places) ≡ 1024
+places-1024 c = search needs
+
 search-from-requires : tie.Need-search-from-requires
 search-from-requires c κs =
     let c3 = c .before .before .before in
@@ -45,15 +47,14 @@ search-from-requires c κs =
     let c8 = c4 .before .before .before .before in
     let c15 = c8 .before .before .before .before .before .before .before in
     let k = slots-fit (length (now (c15 .args .work))) (c8 .if2 .left) in
-    rw (c3 .scope-of .ensures, c4 .slots-of .ensures) (k .0, k .1, c15 .pre)
+    rw (c3 .scope-of .ensures, c4 .slots-of .ensures) (k .0, k .1, c15 .pre, places-1024 c15)
 
 same-length : tie.Need-same-length
 same-length c = search needs
 
 returns-3 : tie.Need-returns-3
 returns-3 c =
-    let c2 = c .before .before in
-    let c6 = c2 .before .before .before .before in
+    let c6 = c .before .before .before .before .before .before in
     let c7 = c6 .before in
     let c11 = c7 .before .before .before .before in
     let c12 = c11 .before in
@@ -61,7 +62,7 @@ returns-3 c =
     let a = c18 .args in
     let n = c7 .slots-of in
     let s = c6 .scope-of in
-    let r = c2 .search-from in (
+    let r = c .before .before .search-from in (
       searched (now (a .l)) (now (a .f)) (a .files) (a .start) (now (a .work)) (n .result) _ (r .result) (c12 .if1 .left) (c11 .if2 .left)
           (n .ensures) (rw (s .ensures) at (r .ensures .0)),
       (r .ensures .1 .1, rw (← n .ensures) (rw (s .ensures) at (r .ensures .1 .0))),

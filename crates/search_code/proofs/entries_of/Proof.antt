@@ -56,8 +56,8 @@ loop-less c = search needs
 
 loop-again : tie.Need-loop-again Inv-loop μ-loop
 loop-again c =
-    let h : length (c .before .before .before .before .args .t .trail) ≡ 32 = search needs in
-    let c4 = c .before .before .before .before in (
+    let c4 = c .before .before .before .before in
+    let h : length (c4 .args .t .trail) ≡ 32 = search needs in (
       omega arith,
       store-entry (λ w. w / 8) (c4 .args .t .trail) (c .before .loop .events) (c .before .loop .k) (omega arith) (omega arith)
           (c .before .loop .inv .1),
@@ -67,10 +67,11 @@ loop-again c =
 
 returns : tie.Need-returns Inv-loop μ-loop
 returns c =
-    let h : length (c .before .before .before .before .args .t .trail) ≡ 32 = search needs in
-    let c4 = c .before .before .before .before in
-    let s : c .before .loop .k ≡ c .before .before .capped .result = omega arith in
-    entries-are (c4 .args .t) h (c .before .before .capped .result) (c .before .loop .events) (c .before .loop .numbers) (c .before .before .capped .ensures)
+    let c2 = c .before .before in
+    let c4 = c2 .before .before in
+    let h : length (c4 .args .t .trail) ≡ 32 = search needs in
+    let s : c .before .loop .k ≡ c2 .capped .result = omega arith in
+    entries-are (c4 .args .t) h (c2 .capped .result) (c .before .loop .events) (c .before .loop .numbers) (c2 .capped .ensures)
     (rw s at (c .before .loop .inv .1)) (rw s at (c .before .loop .inv .2))
 
 pub entries-of-spec : {M : Type 1} → statement M

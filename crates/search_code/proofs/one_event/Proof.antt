@@ -14,10 +14,11 @@ same-length c = search needs
 
 returns : tie.Need-returns
 returns c =
-    let c7 = c .before .before .before .before .before .before .before in
-    let a = c7 .args in
+    let c9 = c .before .before .before .before .before .before .before .before .before in
+    let a = c9 .args in
     let b = c .before .before .ending in (
-      found-turn (now (a .f)) (now (a .table)) (a .rules) (a .moment) (a .seats) (now (a .work)) (now (a .work)) (b .result) (b .ensures) (c .if1 .taken),
+      found-turn (now (a .l)) (now (a .places)) (now (a .f)) (now (a .table)) (a .rules) (a .moment) (a .seats) (now (a .work)) (now (a .work)) (b .result)
+          (b .ensures) (c .if1 .taken),
       (tt, refl),
     )
 
@@ -32,11 +33,12 @@ returns-2 c =
     let c4 = c .before .before .before .before in
     let c6 = c4 .before .before in
     let c8 = c6 .before .before in
-    let c13 = c8 .before .before .before .before .before in
-    let a = c13 .args in
+    let c15 = c8 .before .before .before .before .before .before .before in
+    let a = c15 .args in
     let b = c8 .ending in
     let x = c4 .advance in
-    let turn = crowded-turn (now (a .f)) (now (a .table)) (a .rules) (a .moment) (a .seats) (now (a .work)) (x .last .0) (b .result) (b .ensures) in
+    let turn = crowded-turn (now (a .l)) (now (a .places)) (now (a .f)) (now (a .table)) (a .rules) (a .moment) (a .seats) (now (a .work)) (x .last .0)
+    (b .result) (b .ensures) in
     (turn (x .result) (c6 .if1 .left) (x .ensures .0) (c .if2 .taken), (tt, x .ensures .1 .1))
 
 same-length-3 : tie.Need-same-length-3
@@ -47,11 +49,12 @@ returns-3 c =
     let c4 = c .before .before .before .before in
     let c6 = c4 .before .before in
     let c8 = c6 .before .before in
-    let c13 = c8 .before .before .before .before .before in
-    let a = c13 .args in
+    let c15 = c8 .before .before .before .before .before .before .before in
+    let a = c15 .args in
     let b = c8 .ending in
     let x = c4 .advance in
-    let turn = next-turn (now (a .f)) (now (a .table)) (a .rules) (a .moment) (a .seats) (now (a .work)) (x .last .0) (b .result) (b .ensures) in
+    let turn = next-turn (now (a .l)) (now (a .places)) (now (a .f)) (now (a .table)) (a .rules) (a .moment) (a .seats) (now (a .work)) (x .last .0)
+    (b .result) (b .ensures) in
     (turn (x .result) (c6 .if1 .left) (x .ensures .0) (c .if2 .left), (c .if2 .left, x .ensures .1 .1))
 
 pub one-event-spec : {M : Type 1} → statement M

@@ -27,14 +27,12 @@ refused-requires c κs = search needs
 
 returns : tie.Need-returns
 returns c =
-    let c1 = c .before in
-    let c2 = c1 .before in
-    let c4 = c2 .before .before in
+    let c4 = c .before .before .before .before in
     let c8 = c4 .before .before .before .before in
     let a = c8 .args in
     let files = c4 .read-files in
-    let why = c2 .enum-told2 .given in
-    let e = c .refused .ensures ∙ ap refusal (c1 .refusal-of .ensures ∙ ap refusalOf (why .1)) in
+    let why = c .before .before .enum-told2 .given in
+    let e = c .refused .ensures ∙ ap refusal (c .before .refusal-of .ensures ∙ ap refusalOf (why .1)) in
     record {
       answer = by-files (now (a .l)) (now (a .f)) (a .start) (now (a .work)) (files .result) (files .ensures) (why .0 .0) (c .refused .result) (why .1) e;
       untouched = λ why v u. refl;
@@ -44,25 +42,23 @@ returns c =
 
 checked-requires : tie.Need-checked-requires
 checked-requires c κs =
-    let c1 = c .before in
-    let c3 = c1 .before .before in
+    let c3 = c .before .before .before in
     let c7 = c3 .before .before .before .before in
     let a = c7 .args in
     let files = c3 .read-files in
-    few-events (now (a .l)) (now (a .f)) (files .result) (files .ensures) (c1 .enum-told .given .1)
+    few-events (now (a .l)) (now (a .f)) (files .result) (files .ensures) (c .before .enum-told .given .1)
 
 same-length : tie.Need-same-length
 same-length c = search needs
 
 returns-2 : tie.Need-returns-2
 returns-2 c =
-    let c2 = c .before .before in
-    let c4 = c2 .before .before in
+    let c4 = c .before .before .before .before in
     let c6 = c4 .before .before in
     let c10 = c6 .before .before .before .before in
     let a = c10 .args in
     let files = c6 .read-files in
-    let k = c2 .checked in
+    let k = c .before .before .checked in
     let r =
     by-search (now (a .l)) (now (a .f)) (a .start) (now (a .work)) (files .result) (files .ensures) _ (k .result) (c4 .enum-told .given .1)
     (k .ensures .0) in

@@ -52,20 +52,20 @@ event-at-requires c κs = search needs
 
 moment-of-requires : tie.Need-moment-of-requires Inv-loop μ-loop
 moment-of-requires c κs =
-    let c5 = c .before .before .before .before .before in
-    let c17 = c5 .before .before .before .before .before .before .before .before .before .before .before .before in
-    omega (arith, c5 .if1 .taken, c17 .pre)
+    let c6 = c .before .before .before .before .before .before in
+    let c18 = c6 .before .before .before .before .before .before .before .before .before .before .before .before in
+    omega (arith, c6 .if1 .taken, c18 .pre)
 
 at-event-requires : tie.Need-at-event-requires Inv-loop μ-loop
 at-event-requires c κs =
-    let c6 = c .before .before .before .before .before .before in
-    let c8 = c6 .before .before in
-    let c13 = c8 .before .before .before .before .before in
-    let c18 = c13 .before .before .before .before .before in
-    let i = c8 .loop in
-    let k : length (i .work) ≡ length (now (c18 .args .work)) = i .inv .3 ∙ c13 .origin-in .ensures .1 in (
-      (omega (arith, k, c18 .pre), i .inv .0, i .inv .1),
-      omega (arith, ap (λ (m : Moment). m .number) (c .moment-of .ensures), c6 .if1 .taken, c18 .pre),
+    let c7 = c .before .before .before .before .before .before .before in
+    let c9 = c7 .before .before in
+    let c14 = c9 .before .before .before .before .before in
+    let c19 = c14 .before .before .before .before .before in
+    let i = c9 .loop in
+    let k : length (i .work) ≡ length (now (c19 .args .work)) = i .inv .3 ∙ c14 .origin-in .ensures .1 in (
+      (omega (arith, k, c19 .pre), i .inv .0, i .inv .1),
+      omega (arith, ap (λ (m : Moment). m .number) (c .moment-of .ensures), c7 .if1 .taken, c19 .pre),
       search needs,
     )
 
@@ -78,34 +78,34 @@ named-requires c κs = search needs
 same-length : tie.Need-same-length Inv-loop μ-loop
 same-length c =
     let c5 = c .before .before .before .before .before in
-    let c14 = c5 .before .before .before .before .before .before .before .before .before in
-    let c19 = c14 .before .before .before .before .before in
-    c5 .at-event .ensures .1 .1 ∙ c14 .loop .inv .3 ∙ c19 .origin-in .ensures .1
+    let c15 = c5 .before .before .before .before .before .before .before .before .before .before in
+    let c20 = c15 .before .before .before .before .before in
+    c5 .at-event .ensures .1 .1 ∙ c15 .loop .inv .3 ∙ c20 .origin-in .ensures .1
 
 returns : tie.Need-returns Inv-loop μ-loop
 returns c =
-    let c1 = c .before in
-    let c5 = c1 .before .before .before .before in
+    let c5 = c .before .before .before .before .before in
     let c6 = c5 .before in
-    let c10 = c6 .before .before .before .before in
-    let c12 = c10 .before .before in
-    let c14 = c12 .before .before in
-    let c16 = c14 .before .before in
-    let c19 = c16 .before .before .before in
-    let c24 = c19 .before .before .before .before .before in
-    let a = c24 .args in
-    let i = c14 .loop in
+    let c11 = c6 .before .before .before .before .before in
+    let c13 = c11 .before .before in
+    let c15 = c13 .before .before in
+    let c17 = c15 .before .before in
+    let c20 = c17 .before .before .before in
+    let c25 = c20 .before .before .before .before .before in
+    let a = c25 .args in
+    let i = c15 .loop in
     let at = c5 .at-event in
-    let load = c10 .event-at in
+    let load = c11 .event-at in
     let seats : Seats = record { half = i .half; count = i .count; slots = a .scope .slots } in
     let is =
-    subst (λ (m : Moment). TurnOf (now (a .f)) (now (a .table)) (a .scope .rules) m seats (i .work) (at .last .0) (at .result)) (c6 .moment-of .ensures)
-    (at .ensures .0 (now (a .table)) (c16 .widened .ensures)) in
+    subst (λ (m : Moment). TurnOf (now (a .l)) (now (a .places)) (now (a .f)) (now (a .table)) (a .scope .rules) m seats (i .work) (at .last .0) (at .result))
+    (c6 .moment-of .ensures)
+    (at .ensures .0 (now (a .table)) (c17 .widened .ensures)) in
     let r =
     searching-found (now (a .l)) (now (a .places)) (now (a .f)) (now (a .table)) (a .scope) (a .start) (i .n) (i .half) (i .count) (i .width) (i .work)
-    (i .inv .4) (c12 .if1 .taken) (load .result) (load .ensures) (at .last .0) (at .result) is (c .named .result) (c1 .enum-told .given .1) (i .inv .2)
+    (i .inv .4) (c13 .if1 .taken) (load .result) (load .ensures) (at .last .0) (at .result) is (c .named .result) (c .before .enum-told .given .1) (i .inv .2)
     (c .named .ensures) in
-    (r .0, (r .1, at .ensures .1 .1 ∙ i .inv .3 ∙ c19 .origin-in .ensures .1))
+    (r .0, (r .1, at .ensures .1 .1 ∙ i .inv .3 ∙ c20 .origin-in .ensures .1))
 
 enum-told-2 : tie.Need-enum-told-2 Inv-loop μ-loop
 enum-told-2 c = search needs
@@ -116,34 +116,34 @@ refused-requires c κs = search needs
 same-length-2 : tie.Need-same-length-2 Inv-loop μ-loop
 same-length-2 c =
     let c5 = c .before .before .before .before .before in
-    let c14 = c5 .before .before .before .before .before .before .before .before .before in
-    let c19 = c14 .before .before .before .before .before in
-    c5 .at-event .ensures .1 .1 ∙ c14 .loop .inv .3 ∙ c19 .origin-in .ensures .1
+    let c15 = c5 .before .before .before .before .before .before .before .before .before .before in
+    let c20 = c15 .before .before .before .before .before in
+    c5 .at-event .ensures .1 .1 ∙ c15 .loop .inv .3 ∙ c20 .origin-in .ensures .1
 
 returns-2 : tie.Need-returns-2 Inv-loop μ-loop
 returns-2 c =
-    let c1 = c .before in
-    let c5 = c1 .before .before .before .before in
+    let c5 = c .before .before .before .before .before in
     let c6 = c5 .before in
-    let c10 = c6 .before .before .before .before in
-    let c12 = c10 .before .before in
-    let c14 = c12 .before .before in
-    let c16 = c14 .before .before in
-    let c19 = c16 .before .before .before in
-    let c24 = c19 .before .before .before .before .before in
-    let a = c24 .args in
-    let i = c14 .loop in
+    let c11 = c6 .before .before .before .before .before in
+    let c13 = c11 .before .before in
+    let c15 = c13 .before .before in
+    let c17 = c15 .before .before in
+    let c20 = c17 .before .before .before in
+    let c25 = c20 .before .before .before .before .before in
+    let a = c25 .args in
+    let i = c15 .loop in
     let at = c5 .at-event in
-    let load = c10 .event-at in
+    let load = c11 .event-at in
     let seats : Seats = record { half = i .half; count = i .count; slots = a .scope .slots } in
     let is =
-    subst (λ (m : Moment). TurnOf (now (a .f)) (now (a .table)) (a .scope .rules) m seats (i .work) (at .last .0) (at .result)) (c6 .moment-of .ensures)
-    (at .ensures .0 (now (a .table)) (c16 .widened .ensures)) in
+    subst (λ (m : Moment). TurnOf (now (a .l)) (now (a .places)) (now (a .f)) (now (a .table)) (a .scope .rules) m seats (i .work) (at .last .0) (at .result))
+    (c6 .moment-of .ensures)
+    (at .ensures .0 (now (a .table)) (c17 .widened .ensures)) in
     let r =
     searching-crowded (now (a .l)) (now (a .places)) (now (a .f)) (now (a .table)) (a .scope) (a .start) (i .n) (i .half) (i .count) (i .width) (i .work)
-    (i .inv .4) (c12 .if1 .taken) (load .result) (load .ensures) (at .last .0) (at .result) is (c .refused .result) (c1 .enum-told2 .given .1)
+    (i .inv .4) (c13 .if1 .taken) (load .result) (load .ensures) (at .last .0) (at .result) is (c .refused .result) (c .before .enum-told2 .given .1)
     (c .refused .ensures) in
-    (r .0, (r .1, at .ensures .1 .1 ∙ i .inv .3 ∙ c19 .origin-in .ensures .1))
+    (r .0, (r .1, at .ensures .1 .1 ∙ i .inv .3 ∙ c20 .origin-in .ensures .1))
 
 enum-known-outcome : tie.Need-enum-known-outcome Inv-loop μ-loop
 enum-known-outcome c = search needs
@@ -152,42 +152,44 @@ larger-requires : tie.Need-larger-requires Inv-loop μ-loop
 larger-requires c κs = search needs
 
 sub-half : tie.Need-sub-half Inv-loop μ-loop
-sub-half c = search needs
+sub-half c =
+    let c16 = c .before .before .before .before .before .before .before .before .before .before .before .before .before .before .before .before in
+    omega (arith, c16 .loop .inv .0)
 
 onward-requires : tie.Need-onward-requires Inv-loop μ-loop
 onward-requires c κs = search needs
 
 loop-less : tie.Need-loop-less Inv-loop μ-loop
 loop-less c =
-    let c14 = c .before .before .before .before .before .before .before .before .before .before .before .before .before .before in
-    omega (arith, c .onward .ensures .1, c14 .if1 .taken)
+    let c15 = c .before .before .before .before .before .before .before .before .before .before .before .before .before .before .before in
+    omega (arith, c .onward .ensures .1, c15 .if1 .taken)
 
 loop-again : tie.Need-loop-again Inv-loop μ-loop
 loop-again c =
-    let c1 = c .before in
-    let c3 = c1 .before .before in
+    let c3 = c .before .before .before in
     let c7 = c3 .before .before .before .before in
     let c8 = c7 .before in
-    let c12 = c8 .before .before .before .before in
-    let c14 = c12 .before .before in
-    let c16 = c14 .before .before in
-    let c18 = c16 .before .before in
-    let c26 = c18 .before .before .before .before .before .before .before .before in
-    let a = c26 .args in
-    let i = c16 .loop in
+    let c13 = c8 .before .before .before .before .before in
+    let c15 = c13 .before .before in
+    let c17 = c15 .before .before in
+    let c19 = c17 .before .before in
+    let c27 = c19 .before .before .before .before .before .before .before .before in
+    let a = c27 .args in
+    let i = c17 .loop in
     let at = c7 .at-event in
-    let load = c12 .event-at in
+    let load = c13 .event-at in
     let seats : Seats = record { half = i .half; count = i .count; slots = a .scope .slots } in
     let is =
-    subst (λ (m : Moment). TurnOf (now (a .f)) (now (a .table)) (a .scope .rules) m seats (i .work) (at .last .0) (at .result)) (c8 .moment-of .ensures)
-    (at .ensures .0 (now (a .table)) (c18 .widened .ensures)) in
+    subst (λ (m : Moment). TurnOf (now (a .l)) (now (a .places)) (now (a .f)) (now (a .table)) (a .scope .rules) m seats (i .work) (at .last .0) (at .result))
+    (c8 .moment-of .ensures)
+    (at .ensures .0 (now (a .table)) (c19 .widened .ensures)) in
     let more = c3 .outcome .given in
     let fits : more .0 .0 ≤ a .scope .slots = subst (Fits (a .scope .slots)) (more .1) (at .ensures .1 .0) in
-    let larger = c1 .larger in
+    let larger = c .before .larger in
     let widest : larger .result ≤ a .scope .slots = omega (arith, larger .ensures, i .inv .2) in
     let s =
     searching-next (now (a .l)) (now (a .places)) (now (a .f)) (now (a .table)) (a .scope) (a .start) (i .n) (i .half) (i .count) (i .width) (i .work)
-    (i .inv .4) (c14 .if1 .taken) (load .result) (load .ensures) (at .last .0) (at .result) is (more .0 .0) (c .onward .result) (more .1)
+    (i .inv .4) (c15 .if1 .taken) (load .result) (load .ensures) (at .last .0) (at .result) is (more .0 .0) (c .onward .result) (more .1)
     (c .onward .ensures .0) in
     (omega arith, fits, widest, at .ensures .1 .1 ∙ i .inv .3, rw (larger .ensures) s)
 
@@ -202,15 +204,14 @@ same-length-3 c =
 
 returns-3 : tie.Need-returns-3 Inv-loop μ-loop
 returns-3 c =
-    let c1 = c .before in
-    let c3 = c1 .before .before in
+    let c3 = c .before .before .before in
     let c8 = c3 .before .before .before .before .before in
     let c13 = c8 .before .before .before .before .before in
     let a = c13 .args in
     let i = c3 .loop in
     let r =
     searching-over (now (a .l)) (now (a .places)) (now (a .f)) (now (a .table)) (a .scope) (a .start) (i .n) (i .half) (i .count) (i .width) (i .work)
-    (i .inv .4) (c .no-run .result) (c1 .if1 .left) (i .inv .2) (c .no-run .ensures) in
+    (i .inv .4) (c .no-run .result) (c .before .if1 .left) (i .inv .2) (c .no-run .ensures) in
     (r .0, (r .1, i .inv .3 ∙ c8 .origin-in .ensures .1))
 
 pub search-from-spec : {M : Type 1} → statement M

@@ -62,24 +62,24 @@ namedAnswer kinds t width =
 -- what one event does to a search: the least run that ends on it; crowded; or the next waiting list, in the other half
 abbrev pub TurnTo : (g : Log) (fm : Formula) (half count slots n : ℕ) (before after : List ℕ) → Thread → Outcome → Type 0
 TurnTo g fm half count slots n before after t Found =
-    (Runs.least (machine g fm) (Runs.endings (machine g fm) n (waitingIn g fm half count before)) ≡ some (thread g fm t)) × Fit fm t
+    (Runs.least (machine g fm) (Runs.endings (machine g fm) n (waitingIn g fm half count before)) ≡ some (thread g fm t)) × Fit g fm t
 TurnTo g fm half count slots n before after t Crowded =
     (Runs.least (machine g fm) (Runs.endings (machine g fm) n (waitingIn g fm half count before)) ≡ none)
     × (insertWithin (machine g fm) slots [] (candidates (machine g fm) n (waitingIn g fm half count before)) ≡ none)
 TurnTo g fm half count slots n before after t (Waiting more) =
     (Runs.least (machine g fm) (Runs.endings (machine g fm) n (waitingIn g fm half count before)) ≡ none)
     × (insertWithin (machine g fm) slots [] (candidates (machine g fm) n (waitingIn g fm half count before)) ≡ some (waitingIn g fm (1 - half) more after))
-    × Kept fm (1 - half) more after
+    × Kept g fm (1 - half) more after
 
-abbrev pub TurnIs : List ℕ → List ℕ → Rules → Moment → Seats → List ℕ → List ℕ → Turn → Type 0
-TurnIs f table rules m s before after r =
-    (g : Log) (fm : Formula) → Scene g fm f table rules m → Kept fm (s .half) (s .count) before
+abbrev pub TurnIs : List ℕ → List ℕ → List ℕ → List ℕ → Rules → Moment → Seats → List ℕ → List ℕ → Turn → Type 0
+TurnIs l places f table rules m s before after r =
+    (g : Log) (fm : Formula) → Scene g fm l places f table rules m → Kept g fm (s .half) (s .count) before
     → TurnTo g fm (s .half) (s .count) (s .slots) (m .number) before after (r .thread) (r .outcome)
 
 -- the same, from the table of the formula's steps
-abbrev pub TurnOf : List ℕ → List ℕ → Rules → Moment → Seats → List ℕ → List ℕ → Turn → Type 0
-TurnOf f steps rules m s before after r =
-    (g : Log) (fm : Formula) → Setting g fm f steps rules → Loads g m → Kept fm (s .half) (s .count) before
+abbrev pub TurnOf : List ℕ → List ℕ → List ℕ → List ℕ → Rules → Moment → Seats → List ℕ → List ℕ → Turn → Type 0
+TurnOf l places f steps rules m s before after r =
+    (g : Log) (fm : Formula) → Setting g fm f steps rules → Leads l places g → Loads g m → Kept g fm (s .half) (s .count) before
     → TurnTo g fm (s .half) (s .count) (s .slots) (m .number) before after (r .thread) (r .outcome)
 
 -- a next waiting list has at most as many threads as there are slots
@@ -91,14 +91,13 @@ Fits slots (Waiting more) = more ≤ slots
 -- what the readers of two accepted files say of a search with so many slots
 abbrev pub scopeOf : LogReading → FormulaReading → ℕ → Scope
 scopeOf log formula slots =
-    record { fields = log .fields; events = log .events; rules = record { kinds = formula .kinds; rises = log .rises }; slots = slots }
+    record { events = log .events; rules = record { kinds = formula .kinds; rises = log .rises; fields = log .fields }; slots = slots }
 
 -- a log and a formula, as the readers of two accepted files hand them on: the table of places leads to the log's events, and the bytes
 -- are those of the formula
 pub record Given (g : Log) (fm : Formula) (l places f table : List ℕ) (scope : Scope) : Type 0 where
   pub setting : Setting g fm f table (scope .rules)
   pub leads : Leads l places g
-  pub fields-are : scope .fields ≡ length (g .fields)
   pub events-are : scope .events ≡ length (g .events)
 
 -- the search's answer

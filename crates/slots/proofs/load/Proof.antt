@@ -67,11 +67,26 @@ part-write-end-3 c = search needs
 write-requires-3 : tie.Need-write-requires-3
 write-requires-3 c κs = search needs
 
-shared-slice-read-t28 : tie.Need-shared-slice-read-t28
-shared-slice-read-t28 c = search needs
+slice-aggregate-write-4 : tie.Need-slice-aggregate-write-4
+slice-aggregate-write-4 c = search needs
 
-shared-slice-read-t28-2 : tie.Need-shared-slice-read-t28-2
-shared-slice-read-t28-2 c = search needs
+sub-write-4 : tie.Need-sub-write-4
+sub-write-4 c = search needs
+
+part-write-start-4 : tie.Need-part-write-start-4
+part-write-start-4 c = search needs
+
+part-write-end-4 : tie.Need-part-write-end-4
+part-write-end-4 c = search needs
+
+write-requires-4 : tie.Need-write-requires-4
+write-requires-4 c κs = search needs
+
+shared-slice-read-t34 : tie.Need-shared-slice-read-t34
+shared-slice-read-t34 c = search needs
+
+shared-slice-read-t34-2 : tie.Need-shared-slice-read-t34-2
+shared-slice-read-t34-2 c = search needs
 
 returns : tie.Need-returns
 unfolding threadOf
@@ -79,17 +94,20 @@ returns c =
     let c3 = c .before .before .before in
     let c7 = c3 .before .before .before .before in
     let c11 = c7 .before .before .before .before in
-    let c14 = c11 .before .before .before in
-    let c17 = c14 .before .before .before in
-    let l = now (c17 .args .part) in
-    let p = c17 .pre in
-    let v = c11 .write in
-    let k = c7 .write2 in
-    let t = c3 .write3 in
+    let c15 = c11 .before .before .before .before in
+    let c18 = c15 .before .before .before in
+    let c21 = c18 .before .before .before in
+    let l = now (c21 .args .part) in
+    let p = c21 .pre in
+    let v = c15 .write in
+    let k = c11 .write2 in
+    let y = c7 .write3 in
+    let t = c3 .write4 in
     let ev : v .last .0 ≡ take 8 (drop 9 l) = v .ensures ∙ put-whole (replicate 8 0) (take 8 (drop 9 l)) (part-length 9 8 l (omega arith)) in
     let ek : k .last .0 ≡ take 16 (drop 17 l) = k .ensures ∙ put-whole (replicate 16 0) (take 16 (drop 17 l)) (part-length 17 16 l (omega arith)) in
-    let et : t .last .0 ≡ take 32 (drop 34 l) = t .ensures ∙ put-whole (replicate 32 0) (take 32 (drop 34 l)) (part-length 34 32 l (omega arith)) in
-    threads-equal _ _ _ _ _ _ _ _ _ _ _ _ refl (c14 .flags-of .ensures) ev ek refl et
+    let ey : y .last .0 ≡ take 12 (drop 33 l) = y .ensures ∙ put-whole (replicate 12 0) (take 12 (drop 33 l)) (part-length 33 12 l (omega arith)) in
+    let et : t .last .0 ≡ take 32 (drop 46 l) = t .ensures ∙ put-whole (replicate 32 0) (take 32 (drop 46 l)) (part-length 46 32 l (omega arith)) in
+    threads-equal _ _ _ _ _ _ _ _ _ _ _ _ _ _ refl (c18 .flags-of .ensures) ev ek ey refl et
 
 pub load-spec : {M : Type 1} → statement M
 load-spec =
@@ -114,6 +132,11 @@ load-spec =
     part-write-start-3
     part-write-end-3
     write-requires-3
-    shared-slice-read-t28
-    shared-slice-read-t28-2
+    slice-aggregate-write-4
+    sub-write-4
+    part-write-start-4
+    part-write-end-4
+    write-requires-4
+    shared-slice-read-t34
+    shared-slice-read-t34-2
     returns)

@@ -39,7 +39,8 @@ returns c =
     let a = c .before .before .before .before .before .before .args in
     let o = c .before .before .before .before .offset .result in
     let q = c .before .before .before .before .offset .ensures in
-    let s : Sized (a .t) = record { held-8 = search needs; values-8 = search needs; counters-16 = search needs; trail-32 = search needs } in
+    let s : Sized (a .t) =
+    record { held-8 = search needs; values-8 = search needs; counters-16 = search needs; tallies-12 = search needs; trail-32 = search needs } in
     stored-part (now (a .work)) (c .before .before .store .last .0) (a .t) o (o + 96) (place (a .half) (a .slot)) s q refl
     (omega (arith, (c .before .before .before .before .before .before .pre))) (c .before .before .store .ensures)
 

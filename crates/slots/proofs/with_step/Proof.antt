@@ -26,10 +26,10 @@ returns : tie.Need-returns
 returns c =
     let t = c .before .before .args .t in
     extended t (c .before .before .args .event) (c .before .before .args .number) (record {
-      held-8 =
-          search needs;
+      held-8 = search needs;
       values-8 = search needs;
       counters-16 = search needs;
+      tallies-12 = search needs;
       trail-32 = search needs;
     }) (c .before .before .pre .0) (c .before .before .pre .2)
 

@@ -21,15 +21,15 @@ use Rattle.threads.proofs.advance.Statement.{statement}
 use Rattle.threads.proofs.advance.Tie as tie
 
 abbrev Inv-loop : tie.InvT-loop
-Inv-loop work₀ seats f table rules m other count₀ j₀ work count j =
+Inv-loop work₀ seats l places f table rules m other count₀ j₀ work count j =
     (j ≤ seats .count) × (count ≤ seats .slots) × Grown other (seats .slots) work₀ work count
-    × ((g : Log) (fm : Formula) → Scene g fm f table rules m → Kept fm (seats .half) (seats .count) work₀
+    × ((g : Log) (fm : Formula) → Scene g fm l places f table rules m → Kept g fm (seats .half) (seats .count) work₀
     → Left g fm other (seats .slots)
     (insertWithin (machine g fm) (seats .slots) [] (candidates (machine g fm) (m .number) (waitingIn g fm (seats .half) (seats .count) work₀)))
     (candidates (machine g fm) (m .number) (drop j (waitingIn g fm (seats .half) (seats .count) work₀))) work count)
 
 abbrev μ-loop : tie.MeasureT-loop
-μ-loop work₀ seats f table rules m other count₀ j₀ work count j = seats .count - j
+μ-loop work₀ seats l places f table rules m other count₀ j₀ work count j = seats .count - j
 
 sub-other : tie.Need-sub-other Inv-loop μ-loop
 sub-other c = omega arith
@@ -37,8 +37,8 @@ sub-other c = omega arith
 loop-holds : tie.Need-loop-holds Inv-loop μ-loop
 unfolding threadsFrom
 loop-holds c =
-    let c4 = c .before .before .before .before in
-    let a = c4 .args in
+    let c6 = c .before .before .before .before .before .before in
+    let a = c6 .args in
     let z = a .seats in (
       omega arith,
       omega arith,
@@ -50,14 +50,14 @@ loop-holds c =
 load-slot-requires : tie.Need-load-slot-requires Inv-loop μ-loop
 load-slot-requires c κs =
     let c3 = c .before .before .before in
-    let c8 = c3 .before .before .before .before .before in
-    omega (arith, c3 .loop .inv .2 .sized, c8 .pre, c .before .if1 .taken)
+    let c10 = c3 .before .before .before .before .before .before .before in
+    omega (arith, c3 .loop .inv .2 .sized, c10 .pre, c .before .if1 .taken)
 
 offer-all-requires : tie.Need-offer-all-requires Inv-loop μ-loop
 offer-all-requires c κs =
     let c5 = c .before .before .before .before .before in
-    let c10 = c5 .before .before .before .before .before in
-    omega (arith, c5 .loop .inv .2 .sized, c5 .loop .inv .1, c10 .pre)
+    let c12 = c5 .before .before .before .before .before .before .before in
+    omega (arith, c5 .loop .inv .2 .sized, c5 .loop .inv .1, c12 .pre)
 
 same-length : tie.Need-same-length Inv-loop μ-loop
 same-length c =
@@ -71,15 +71,15 @@ returns c =
     let c6 = c4 .before .before in
     let c8 = c6 .before .before in
     let c10 = c8 .before .before in
-    let c15 = c10 .before .before .before .before .before in
-    let a = c15 .args in
+    let c17 = c10 .before .before .before .before .before .before .before in
+    let a = c17 .args in
     let w = now (a .work) in
     let z = a .seats in
     let n = a .moment .number in
     let other = 1 - z .half in
     let l = c10 .loop in
     let x = c4 .offer-all in
-    let p = c15 .pre .0 in
+    let p = c17 .pre .0 in
     let t = c6 .load-slot .result in
     let h = c8 .if1 .taken in
     let e = thread-stays (z .half) (z .slots) (z .count) w (l .work) (l .count) (l .j) t (p .1) (p .2) (l .inv .2) h (c6 .load-slot .ensures) in (
@@ -89,7 +89,7 @@ returns c =
           let ys = candidates (machine g fm) n (drop (l .j + 1) (waitingIn g fm (z .half) (z .count) w)) in
           let whole = insertWithin (machine g fm) (z .slots) [] (candidates (machine g fm) n (waitingIn g fm (z .half) (z .count) w)) in
           let u = left-as g fm other (z .slots) whole _ _ (l .work) (l .count) (candidates-next g fm n (z .half) (z .count) w (l .j) t h e) v in
-          let o = x .ensures .1 g fm s (v .kept) (kept-at fm (z .half) (z .count) w (l .j) t k h e) in
+          let o = x .ensures .1 g fm s (v .kept) (kept-at g fm (z .half) (z .count) w (l .j) t k h e) in
           left-stopped g fm other (z .slots) whole xs ys (l .work) (x .last .0) (l .count) (x .result) u o (c .if2 .taken),
       (omega (arith, x .ensures .0 .most), x .ensures .0 .sized ∙ l .inv .2 .sized),
     )
@@ -106,15 +106,15 @@ loop-again c =
     let c6 = c4 .before .before in
     let c8 = c6 .before .before in
     let c10 = c8 .before .before in
-    let c15 = c10 .before .before .before .before .before in
-    let a = c15 .args in
+    let c17 = c10 .before .before .before .before .before .before .before in
+    let a = c17 .args in
     let w = now (a .work) in
     let z = a .seats in
     let n = a .moment .number in
     let other = 1 - z .half in
     let l = c10 .loop in
     let x = c4 .offer-all in
-    let p = c15 .pre .0 in
+    let p = c17 .pre .0 in
     let t = c6 .load-slot .result in
     let h = c8 .if1 .taken in
     let e = thread-stays (z .half) (z .slots) (z .count) w (l .work) (l .count) (l .j) t (p .1) (p .2) (l .inv .2) h (c6 .load-slot .ensures) in (
@@ -127,7 +127,7 @@ loop-again c =
           let ys = candidates (machine g fm) n (drop (l .j + 1) (waitingIn g fm (z .half) (z .count) w)) in
           let whole = insertWithin (machine g fm) (z .slots) [] (candidates (machine g fm) n (waitingIn g fm (z .half) (z .count) w)) in
           let u = left-as g fm other (z .slots) whole _ _ (l .work) (l .count) (candidates-next g fm n (z .half) (z .count) w (l .j) t h e) v in
-          let o = x .ensures .1 g fm s (v .kept) (kept-at fm (z .half) (z .count) w (l .j) t k h e) in
+          let o = x .ensures .1 g fm s (v .kept) (kept-at g fm (z .half) (z .count) w (l .j) t k h e) in
           left-next g fm other (z .slots) whole xs ys (l .work) (x .last .0) (l .count) (x .result) u o (c .if2 .left),
     )
 
@@ -136,8 +136,8 @@ same-length-2 c = c .before .before .loop .inv .2 .sized
 
 returns-2 : tie.Need-returns-2 Inv-loop μ-loop
 returns-2 c =
-    let c7 = c .before .before .before .before .before .before .before in
-    let a = c7 .args in
+    let c9 = c .before .before .before .before .before .before .before .before .before in
+    let a = c9 .args in
     let w = now (a .work) in
     let z = a .seats in
     let l = c .before .before .loop in (

@@ -2,7 +2,7 @@
 use mathlib.Core.Path.{sym, _∙_, subst}
 use native.Mathlib.Omega.{arith}
 use borrow.Author.Needs.{needs}
-use Rattle.machine_code.specs.inner.Bytes.{configOf}
+use Rattle.threads.specs.inner.Setting.{conf}
 use Rattle.threads.specs.inner.Calls.{Lowest}
 use Rattle.threads.proofs.Choices.{ordinary-choice, quiet-choice, lowest-choice}
 use Rattle.threads.proofs.Words.{committed-word}
@@ -15,39 +15,39 @@ is-committed-requires c κs = search needs
 lowest-at-requires : tie.Need-lowest-at-requires
 lowest-at-requires c κs = search needs
 
-add-t10 : tie.Need-add-t10
-add-t10 c = search needs
+add-t12 : tie.Need-add-t12
+add-t12 c = search needs
 
 returns : tie.Need-returns
 returns c =
     let c3 = c .before .before .before in
-    let c7 = c3 .before .before .before .before in
-    let a = c7 .args in
+    let c9 = c3 .before .before .before .before .before .before in
+    let a = c9 .args in
     let x = c .before .lowest-at in (
       omega (arith, x .ensures .0),
       λ g fm s h.
           let e = sym (committed-word g fm _ _ (a .rules) (s .setting) (a .t) h) ∙ sym (c3 .is-committed .ensures) ∙ c .before .before .if1 .taken in
-          lowest-choice g fm (a .t) (a .moment .number) h (x .result) e (c .if2 .taken) (x .ensures .1 g fm (a .rules) s h),
+          lowest-choice g fm (a .t) (a .moment .number) h (x .result) e (c .if2 .taken) (x .ensures .1 g fm s h),
     )
 
 returns-2 : tie.Need-returns-2
 returns-2 c =
     let c3 = c .before .before .before in
-    let c7 = c3 .before .before .before .before in
-    let a = c7 .args in
+    let c9 = c3 .before .before .before .before .before .before in
+    let a = c9 .args in
     let x = c .before .lowest-at in (
       omega (arith, x .ensures .0),
       λ g fm s h.
           let e = sym (committed-word g fm _ _ (a .rules) (s .setting) (a .t) h) ∙ sym (c3 .is-committed .ensures) ∙ c .before .before .if1 .taken in
           let n = a .moment .number in
           quiet-choice g fm (a .t) n h e
-          (subst (Lowest g fm (configOf (a .t .config)) n) (omega (arith, x .ensures .0, c .if2 .left)) (x .ensures .1 g fm (a .rules) s h)),
+          (subst (Lowest g fm (conf g fm (a .t)) n) (omega (arith, x .ensures .0, c .if2 .left)) (x .ensures .1 g fm s h)),
     )
 
 returns-3 : tie.Need-returns-3
 returns-3 c =
-    let c5 = c .before .before .before .before .before in
-    let a = c5 .args in (
+    let c7 = c .before .before .before .before .before .before .before in
+    let a = c7 .args in (
       omega arith,
       λ g fm s h. ordinary-choice g fm (a .t) (a .moment .number) h
           (sym (committed-word g fm _ _ (a .rules) (s .setting) (a .t) h) ∙ sym (c .before .is-committed .ensures) ∙ c .if1 .left),
@@ -55,4 +55,4 @@ returns-3 c =
 
 pub choice-of-spec : {M : Type 1} → statement M
 choice-of-spec =
-    tie.close (tie.spec is-committed-requires lowest-at-requires add-t10 returns returns-2 returns-3)
+    tie.close (tie.spec is-committed-requires lowest-at-requires add-t12 returns returns-2 returns-3)

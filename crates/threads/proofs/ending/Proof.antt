@@ -19,15 +19,15 @@ use Rattle.threads.proofs.ending.Statement.{statement}
 use Rattle.threads.proofs.ending.Tie as tie
 
 abbrev Inv-loop : tie.InvT-loop
-Inv-loop work seats f table rules m best₀ j₀ best j =
+Inv-loop work seats l places f table rules m best₀ j₀ best j =
     (j ≤ seats .count)
-    × ((g : Log) (fm : Formula) → Scene g fm f table rules m → Kept fm (seats .half) (seats .count) work
+    × ((g : Log) (fm : Formula) → Scene g fm l places f table rules m → Kept g fm (seats .half) (seats .count) work
     → (Runs.least (machine g fm) (Runs.endings (machine g fm) (m .number) (waitingIn g fm (seats .half) (seats .count) work))
     ≡ Runs.leastFrom (machine g fm) (bestOf g fm best) (Runs.endings (machine g fm) (m .number) (drop j (waitingIn g fm (seats .half) (seats .count) work))))
-    × BestFits fm best)
+    × BestFits g fm best)
 
 abbrev μ-loop : tie.MeasureT-loop
-μ-loop work seats f table rules m best₀ j₀ best j = seats .count - j
+μ-loop work seats l places f table rules m best₀ j₀ best j = seats .count - j
 
 origin-requires : tie.Need-origin-requires Inv-loop μ-loop
 origin-requires c κs = search needs
@@ -51,8 +51,8 @@ loop-less c = omega arith
 loop-again : tie.Need-loop-again Inv-loop μ-loop
 loop-again c =
     let c4 = c .before .before .before .before in
-    let c9 = c4 .before .before .before .before .before in
-    let a = c9 .args in
+    let c11 = c4 .before .before .before .before .before .before .before in
+    let a = c11 .args in
     let w = now (a .work) in
     let z = a .seats in
     let l = c4 .loop in
@@ -62,14 +62,14 @@ loop-again c =
       omega arith,
       λ g fm s k.
           let v = l .inv .1 g fm s k in
-          let i = c .ending-of .ensures g fm s (kept-at fm (z .half) (z .count) w (l .j) t k h e) (v .1) in
+          let i = c .ending-of .ensures g fm s (kept-at g fm (z .half) (z .count) w (l .j) t k h e) (v .1) in
           (ending-next g fm (a .moment .number) (z .half) (z .count) w (l .j) _ (l .best) (v .0) t (c .ending-of .result) h e i, i .fits),
     )
 
 returns : tie.Need-returns Inv-loop μ-loop
 returns c =
-    let c7 = c .before .before .before .before .before .before .before in
-    let a = c7 .args in
+    let c9 = c .before .before .before .before .before .before .before .before .before in
+    let a = c9 .args in
     let w = now (a .work) in
     let z = a .seats in
     let l = c .before .before .loop in

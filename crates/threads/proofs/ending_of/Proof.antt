@@ -16,15 +16,15 @@ use Rattle.threads.proofs.ending_of.Statement.{statement}
 use Rattle.threads.proofs.ending_of.Tie as tie
 
 abbrev Inv-loop : tie.InvT-loop
-Inv-loop f table rules m t to least₀ k₀ least k =
-    (g : Log) (fm : Formula) → Scene g fm f table rules m → Going fm t → BestFits fm least₀
+Inv-loop l places f table rules m t to least₀ k₀ least k =
+    (g : Log) (fm : Formula) → Scene g fm l places f table rules m → Going g fm t → BestFits g fm least₀
     → (Runs.leastFrom (machine g fm) (bestOf g fm least₀)
     (keep (Runs.ended (machine g fm)) (Runs.firing (machine g fm) (thread g fm t) (m .number) k₀ (to - k₀)))
     ≡ Runs.leastFrom (machine g fm) (bestOf g fm least) (keep (Runs.ended (machine g fm)) (Runs.firing (machine g fm) (thread g fm t) (m .number) k (to - k))))
-    × BestFits fm least
+    × BestFits g fm least
 
 abbrev μ-loop : tie.MeasureT-loop
-μ-loop f table rules m t to least₀ k₀ least k = to - k
+μ-loop l places f table rules m t to least₀ k₀ least k = to - k
 
 choice-of-requires : tie.Need-choice-of-requires Inv-loop μ-loop
 choice-of-requires c κs = search needs
@@ -46,8 +46,8 @@ loop-less c = omega arith
 loop-again : tie.Need-loop-again Inv-loop μ-loop
 loop-again c =
     let c3 = c .before .before .before in
-    let c6 = c3 .before .before .before in
-    let a = c6 .args in
+    let c8 = c3 .before .before .before .before .before in
+    let a = c8 .args in
     let n = a .moment .number in
     let l = c .before .before .loop in
     let r = c3 .choice-of .result in
@@ -59,8 +59,8 @@ loop-again c =
 
 returns : tie.Need-returns Inv-loop μ-loop
 returns c =
-    let c5 = c .before .before .before .before .before in
-    let a = c5 .args in
+    let c7 = c .before .before .before .before .before .before .before in
+    let a = c7 .args in
     let n = a .moment .number in
     let l = c .before .loop in
     let r = c .before .before .choice-of .result in

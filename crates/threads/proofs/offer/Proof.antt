@@ -1,5 +1,5 @@
 -- A thread that has not ended, in at most 31 steps, waits where some step is not expired.
-use mathlib.Core.Path.{refl, sym, _∙_}
+use mathlib.Core.Path.{sym, _∙_}
 use denote.Ref.{now}
 use borrow.Author.Needs.{needs}
 use Rattle.threads.specs.inner.Event.{waitingIn}
@@ -13,11 +13,11 @@ is-final-requires c κs = search needs
 
 returns : tie.Need-returns
 returns c =
-    let c5 = c .before .before .before .before .before in
-    let a = c5 .args in
+    let c7 = c .before .before .before .before .before .before .before in
+    let a = c7 .args in
     let w = now (a .work) in
     let z = a .seats in
-    let p = c5 .pre in (
+    let p = c7 .pre in (
       grown-same (z .half) (z .slots) (z .count) w (p .2),
       λ g fm s k h.
           let e = sym (final-word g fm _ _ (a .rules) (s .setting) (a .b) h) ∙ sym (c .before .is-final .ensures) ∙ c .if1 .taken in
@@ -26,11 +26,11 @@ returns c =
 
 returns-2 : tie.Need-returns-2
 returns-2 c =
-    let c7 = c .before .before .before .before .before .before .before in
-    let a = c7 .args in
+    let c9 = c .before .before .before .before .before .before .before .before .before in
+    let a = c9 .args in
     let w = now (a .work) in
     let z = a .seats in
-    let p = c7 .pre in (
+    let p = c9 .pre in (
       grown-same (z .half) (z .slots) (z .count) w (p .2),
       λ g fm s k h. within-none g fm (z .half) (z .slots) (z .count) w _ (offered-long g fm (a .moment .number) (a .b) h (c .if2 .taken)) (p .2) k,
     )
@@ -43,20 +43,20 @@ same-length c = search needs
 
 returns-3 : tie.Need-returns-3
 returns-3 c =
-    let c5 = c .before .before .before .before .before in
-    let c7 = c5 .before .before in
-    let c8 = c7 .before in
-    let c12 = c8 .before .before .before .before in
-    let a = c12 .args in
+    let c4 = c .before .before .before .before in
+    let c6 = c4 .before .before in
+    let c7 = c6 .before in
+    let c13 = c7 .before .before .before .before .before .before in
+    let a = c13 .args in
     let w = now (a .work) in
     let z = a .seats in
     let x = c .before .before .wait in (
       x .ensures .0,
       λ g fm s k h.
-          let e = sym (final-word g fm _ _ (a .rules) (s .setting) (a .b) h) ∙ sym (c8 .is-final .ensures) ∙ c7 .if1 .left in
-          let o = offered-open g fm (a .moment .number) (a .b) h e (c5 .if2 .left) in
+          let e = sym (final-word g fm _ _ (a .rules) (s .setting) (a .b) h) ∙ sym (c7 .is-final .ensures) ∙ c6 .if1 .left in
+          let o = offered-open g fm (a .moment .number) (a .b) h e (c4 .if2 .left) in
           within-as g fm (z .half) (z .slots) (waitingIn g fm (z .half) (z .count) w) _ _ (x .last .0) (x .result) o
-          (x .ensures .1 (a .rules) (a .moment) refl refl g fm s k (record { fit = h; short = c5 .if2 .left })),
+          (x .ensures .1 g fm s k (record { fit = h; short = c4 .if2 .left })),
     )
 
 pub offer-spec : {M : Type 1} → statement M

@@ -14,15 +14,15 @@ ends-by-requires c κs = search needs
 
 returns : tie.Need-returns
 returns c =
-    let c5 = c .before .before .before .before .before in
-    let a = c5 .args in
+    let c7 = c .before .before .before .before .before .before .before in
+    let a = c7 .args in
     let w = now (a .work) in
     let z = a .seats in
-    let p = c5 .pre in (
+    let p = c7 .pre in (
       grown-same (z .half) (z .slots) (z .count) w (p .0 .2),
       λ g fm s k go.
           let e = offered-past g fm (a .t) (a .moment .number) (a .k)
-          (λ d e. c .before .ends-by .ensures g fm (a .moment) s (p .2) (a .t) refl (go .fit) d e ∙ c .if1 .taken) in
+          (λ d e. c .before .ends-by .ensures g fm _ _ (a .moment) s (p .2) (a .t) refl (go .fit) d e ∙ c .if1 .taken) in
           within-none g fm (z .half) (z .slots) (z .count) w _ e (p .0 .2) k,
     )
 
@@ -39,8 +39,8 @@ returns-2 : tie.Need-returns-2
 returns-2 c =
     let c4 = c .before .before .before .before in
     let c6 = c4 .before .before in
-    let c12 = c6 .before .before .before .before .before .before in
-    let a = c12 .args in
+    let c14 = c6 .before .before .before .before .before .before .before .before in
+    let a = c14 .args in
     let w = now (a .work) in
     let z = a .seats in
     let n = a .moment .number in
@@ -48,7 +48,7 @@ returns-2 c =
     let x = c .before .before .offer in (
       x .ensures .0,
       λ g fm s k go.
-          let f = move-fires g fm (a .t) n (a .k) (m .result) (m .ensures g fm (a .rules) s go) (c4 .if2 .taken) in
+          let f = move-fires g fm (a .t) n (a .k) (m .result) (m .ensures g fm s go) (c4 .if2 .taken) in
           within-as g fm (z .half) (z .slots) (waitingIn g fm (z .half) (z .count) w) _ _ (x .last .0) (x .result) (ap (offered g fm n) (f .0))
           (x .ensures .1 g fm s k (f .1)),
     )
@@ -56,16 +56,16 @@ returns-2 c =
 returns-3 : tie.Need-returns-3
 unfolding keep
 returns-3 c =
-    let c8 = c .before .before .before .before .before .before .before .before in
-    let a = c8 .args in
+    let c10 = c .before .before .before .before .before .before .before .before .before .before in
+    let a = c10 .args in
     let w = now (a .work) in
     let z = a .seats in
     let n = a .moment .number in
     let m = c .before .before .moved in
-    let p = c8 .pre in (
+    let p = c10 .pre in (
       grown-same (z .half) (z .slots) (z .count) w (p .0 .2),
       λ g fm s k go.
-          let e = move-silent g fm (a .t) n (a .k) (m .result) (m .ensures g fm (a .rules) s go) (c .if2 .left) in
+          let e = move-silent g fm (a .t) n (a .k) (m .result) (m .ensures g fm s go) (c .if2 .left) in
           within-none g fm (z .half) (z .slots) (z .count) w _ (ap (offered g fm n) e) (p .0 .2) k,
     )
 

@@ -17,30 +17,30 @@ use Rattle.threads.proofs.offer_moves.Statement.{statement}
 use Rattle.threads.proofs.offer_moves.Tie as tie
 
 abbrev Inv-loop : tie.InvT-loop
-Inv-loop work₀ seats f table rules m t choice count₀ k₀ work count k =
+Inv-loop work₀ seats l places f table rules m t choice count₀ k₀ work count k =
     (count ≤ seats .slots) × Grown (seats .half) (seats .slots) work₀ work count
-    × ((g : Log) (fm : Formula) → Scene g fm f table rules m → Kept fm (seats .half) (seats .count) work₀ → Going fm t
+    × ((g : Log) (fm : Formula) → Scene g fm l places f table rules m → Kept g fm (seats .half) (seats .count) work₀ → Going g fm t
     → Left g fm (seats .half) (seats .slots)
     (insertWithin (machine g fm) (seats .slots) (waitingIn g fm (seats .half) (seats .count) work₀)
     (offered g fm (m .number) (Runs.firing (machine g fm) (thread g fm t) (m .number) (choice .from) (choice .to - choice .from))))
     (offered g fm (m .number) (Runs.firing (machine g fm) (thread g fm t) (m .number) k (choice .to - k))) work count)
 
 abbrev μ-loop : tie.MeasureT-loop
-μ-loop work₀ seats f table rules m t choice count₀ k₀ work count k = choice .to - k
+μ-loop work₀ seats l places f table rules m t choice count₀ k₀ work count k = choice .to - k
 
 loop-holds : tie.Need-loop-holds Inv-loop μ-loop
 loop-holds c =
-    let c3 = c .before .before .before in
-    let a = c3 .args in
+    let c5 = c .before .before .before .before .before in
+    let a = c5 .args in
     let z = a .seats in
-    let h = c3 .pre .0 .2 in
+    let h = c5 .pre .0 .2 in
     (h, grown-same (z .half) (z .slots) (z .count) (now (a .work)) h, λ g fm s k go. record { is = refl; kept = k })
 
 offer-move-requires : tie.Need-offer-move-requires Inv-loop μ-loop
 offer-move-requires c κs =
     let c3 = c .before .before .before in
-    let c7 = c3 .before .before .before .before in
-    omega (arith, c3 .loop .inv .1 .sized, c3 .loop .inv .0, c7 .pre, c .before .if1 .taken)
+    let c9 = c3 .before .before .before .before .before .before in
+    omega (arith, c3 .loop .inv .1 .sized, c3 .loop .inv .0, c9 .pre, c .before .if1 .taken)
 
 same-length : tie.Need-same-length Inv-loop μ-loop
 same-length c =
@@ -53,8 +53,8 @@ returns c =
     let c4 = c .before .before .before .before in
     let c6 = c4 .before .before in
     let c8 = c6 .before .before in
-    let c12 = c8 .before .before .before .before in
-    let a = c12 .args in
+    let c14 = c8 .before .before .before .before .before .before in
+    let a = c14 .args in
     let w = now (a .work) in
     let z = a .seats in
     let n = a .moment .number in
@@ -82,8 +82,8 @@ loop-again c =
     let c4 = c .before .before .before .before in
     let c6 = c4 .before .before in
     let c8 = c6 .before .before in
-    let c12 = c8 .before .before .before .before in
-    let a = c12 .args in
+    let c14 = c8 .before .before .before .before .before .before in
+    let a = c14 .args in
     let w = now (a .work) in
     let z = a .seats in
     let n = a .moment .number in
@@ -106,8 +106,8 @@ same-length-2 c = c .before .before .loop .inv .1 .sized
 
 returns-2 : tie.Need-returns-2 Inv-loop μ-loop
 returns-2 c =
-    let c6 = c .before .before .before .before .before .before in
-    let a = c6 .args in
+    let c8 = c .before .before .before .before .before .before .before .before in
+    let a = c8 .args in
     let z = a .seats in
     let l = c .before .before .loop in (
       l .inv .1,

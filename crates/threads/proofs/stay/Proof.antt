@@ -1,6 +1,6 @@
 -- A thread that may stay waits as it stands.
 use mathlib.Core.List.{[]}
-use mathlib.Core.Path.{refl, ap}
+use mathlib.Core.Path.{ap}
 use denote.Ref.{now}
 use borrow.Author.Needs.{needs}
 use Rattle.runs.specs.inner.Search as Runs
@@ -20,27 +20,27 @@ same-length c = search needs
 
 returns : tie.Need-returns
 returns c =
-    let c5 = c .before .before .before .before .before in
-    let c9 = c5 .before .before .before .before in
-    let a = c9 .args in
+    let c4 = c .before .before .before .before in
+    let c10 = c4 .before .before .before .before .before .before in
+    let a = c10 .args in
     let w = now (a .work) in
     let z = a .seats in
     let x = c .before .before .wait in (
       x .ensures .0,
       λ g fm s k go.
-          let e = ap (λ b. keep (Runs.hopeful (machine g fm) (a .moment .number)) (only b (thread g fm (a .t)) [])) (c5 .if1 .taken) in
+          let e = ap (λ b. keep (Runs.hopeful (machine g fm) (a .moment .number)) (only b (thread g fm (a .t)) [])) (c4 .if1 .taken) in
           within-as g fm (z .half) (z .slots) (waitingIn g fm (z .half) (z .count) w) _ _ (x .last .0) (x .result) e
-          (x .ensures .1 (a .rules) (a .moment) refl refl g fm s k go),
+          (x .ensures .1 g fm s k go),
     )
 
 returns-2 : tie.Need-returns-2
 unfolding keep
 returns-2 c =
-    let c4 = c .before .before .before .before in
-    let a = c4 .args in
+    let c6 = c .before .before .before .before .before .before in
+    let a = c6 .args in
     let w = now (a .work) in
     let z = a .seats in
-    let p = c4 .pre in (
+    let p = c6 .pre in (
       grown-same (z .half) (z .slots) (z .count) w (p .2),
       λ g fm s k go.
           let e = ap (λ b. keep (Runs.hopeful (machine g fm) (a .moment .number)) (only b (thread g fm (a .t)) [])) (c .if1 .left) in

@@ -6,25 +6,28 @@ use mathlib.Core.Logic.{_⊎_}
 use mathlib.Core.List.{List, [], _∷_, _++_}
 use mathlib.Core.Option.{Option, none, some}
 use lib.ListN.{length}
-use Rattle.event_log.specs.declared.Latest.{Latest}
+use lib.Dec.{eqb}
+use Rattle.base.specs.Lists.{sameList}
 use Rattle.event_log.specs.Log.{Log}
 use Rattle.formula.specs.Formula.{Formula}
 use Rattle.runs.specs.inner.Lists.{only, keep}
 use Rattle.runs.specs.inner.Search as Runs
 use Rattle.runs.specs.inner.Threads.{insertWithin}
-use Rattle.machine.specs.Configuration.{Config}
+use Rattle.machine.specs.Configuration.{Config, same}
 use Rattle.machine.specs.Machine.{machine, fireAt, final}
 use Rattle.machine_code.specs.inner.Bytes.{configOf}
 use Rattle.slots.specs.declared.Thread.{Thread}
-use Rattle.slots.specs.inner.Threads.{trailOf}
-use Rattle.slots.specs.inner.Words.{list}
+use Rattle.slots.specs.inner.Threads.{trailOf, sameWords, position}
+use Rattle.slots.specs.inner.Words.{list, Around, Inserted}
 use Rattle.threads.specs.declared.Best.{Best}
 use Rattle.threads.specs.declared.Move.{Move}
 use Rattle.threads.specs.declared.Choice.{Choice}
 use Rattle.threads.specs.declared.Rules.{Rules}
 use Rattle.threads.specs.declared.Moment.{Moment}
 use Rattle.threads.specs.declared.Seats.{Seats}
-use Rattle.threads.specs.inner.Setting.{Scene, Fit, thread}
+use Rattle.machine.specs.inner.Along.{gathered, tallies, IsFresh}
+use Rattle.lists.specs.inner.Words.{Holds}
+use Rattle.threads.specs.inner.Setting.{Scene, Fit, conf, thread}
 use Rattle.threads.specs.inner.Event.{bestOf, waitingIn, Kept}
 
 -- ---- one step
@@ -32,50 +35,50 @@ use Rattle.threads.specs.inner.Event.{bestOf, waitingIn, Kept}
 -- the thread in the configuration that a step leaves, its trail as before
 pub record Fired (t : Thread) (d : Config) (r : Move) : Type 0 where
   pub fires : r .fires ≡ true
-  pub leaves : configOf (r .thread .config) ≡ d
+  pub leaves : configOf (d .lists) (r .thread .config) ≡ d
   pub same-steps : r .thread .steps ≡ t .steps
   pub same-trail : r .thread .trail ≡ t .trail
+  pub tallied : r .thread .config .tallies ≡ tallies (d .lists)
 
 abbrev pub FiredBy : Option Config → Thread → Move → Type 0
 FiredBy none t r = r .fires ≡ false
 FiredBy (some d) t r = Fired t d r
 
 -- what step k of the thread's state leaves on the event, if it fires
-abbrev pub FiresIs : List ℕ → List ℕ → Moment → Thread → ℕ → Move → Type 0
-FiresIs f table m t k r =
-    (g : Log) (fm : Formula) (rules : Rules) → Scene g fm f table rules m → Fit fm t → k < 8 → FiredBy (fireAt g fm (configOf (t .config)) (m .number) k) t r
+abbrev pub FiresIs : List ℕ → List ℕ → List ℕ → List ℕ → Rules → Moment → Thread → ℕ → Move → Type 0
+FiresIs l places f table rules m t k r =
+    (g : Log) (fm : Formula) → Scene g fm l places f table rules m → Fit g fm t → k < 8 → FiredBy (fireAt g fm (conf g fm t) (m .number) k) t r
 
 -- where step k of the thread's state fires, it leads to a state that accepts or rejects
 abbrev pub EndsIs : List ℕ → List ℕ → Rules → ℕ → ℕ → Bool → Type 0
 EndsIs f table rules state k r =
-    (g : Log) (fm : Formula) (m : Moment) → Scene g fm f table rules m → k < 8
-    → (t : Thread) → t .config .state ≡ state → Fit fm t → (d : Config) → fireAt g fm (configOf (t .config)) (m .number) k ≡ some d → final fm d ≡ r
+    (g : Log) (fm : Formula) (l places : List ℕ) (m : Moment) → Scene g fm l places f table rules m → k < 8
+    → (t : Thread) → t .config .state ≡ state → Fit g fm t → (d : Config) → fireAt g fm (conf g fm t) (m .number) k ≡ some d → final fm d ≡ r
 
 -- some step of the thread's state is not expired (the paper's hopeless) after the event
-abbrev pub HopefulIs : List ℕ → List ℕ → List Bool → Latest → Thread → Bool → Type 0
-HopefulIs f table rises latest t r =
-    (rules : Rules) (m : Moment) → rules .rises ≡ rises → m .latest ≡ latest → (g : Log) (fm : Formula) → Scene g fm f table rules m → Fit fm t
-    → r ≡ Runs.anyAlive (machine g fm) (configOf (t .config)) (m .number) 8
+abbrev pub HopefulIs : List ℕ → List ℕ → List ℕ → List ℕ → Rules → Moment → Thread → Bool → Type 0
+HopefulIs l places f table rules m t r =
+    (g : Log) (fm : Formula) → Scene g fm l places f table rules m → Fit g fm t → r ≡ Runs.anyAlive (machine g fm) (conf g fm t) (m .number) 8
 
 -- a thread that a search keeps, with room in its trail for one step more
-pub record Going (fm : Formula) (t : Thread) : Type 0 where
-  pub fit : Fit fm t
+pub record Going (g : Log) (fm : Formula) (t : Thread) : Type 0 where
+  pub fit : Fit g fm t
   pub short : t .steps < 32
 
 -- the thread with step k taken on event n
 pub record Stepped (g : Log) (fm : Formula) (t : Thread) (n k : ℕ) (d : Config) (r : Move) : Type 0 where
   pub fires : r .fires ≡ true
   pub is : thread g fm (r .thread) ≡ record { config = d; trail = trailOf t ++ (record { event = n; step = k } ∷ []) }
-  pub fit : Fit fm (r .thread)
+  pub fit : Fit g fm (r .thread)
 
 abbrev pub MovedBy : (g : Log) (fm : Formula) → Option Config → Thread → ℕ → ℕ → Move → Type 0
 MovedBy g fm none t n k r = r .fires ≡ false
 MovedBy g fm (some d) t n k r = Stepped g fm t n k d r
 
-abbrev pub MovedIs : List ℕ → List ℕ → Moment → Thread → ℕ → Move → Type 0
-MovedIs f table m t k r =
-    (g : Log) (fm : Formula) (rules : Rules) → Scene g fm f table rules m → Going fm t
-    → MovedBy g fm (fireAt g fm (configOf (t .config)) (m .number) k) t (m .number) k r
+abbrev pub MovedIs : List ℕ → List ℕ → List ℕ → List ℕ → Rules → Moment → Thread → ℕ → Move → Type 0
+MovedIs l places f table rules m t k r =
+    (g : Log) (fm : Formula) → Scene g fm l places f table rules m → Going g fm t
+    → MovedBy g fm (fireAt g fm (conf g fm t) (m .number) k) t (m .number) k r
 
 -- step k fires on event n
 pub record Fires (g : Log) (fm : Formula) (c : Config) (n k : ℕ) : Type 0 where
@@ -87,9 +90,9 @@ pub record Lowest (g : Log) (fm : Formula) (c : Config) (n k : ℕ) : Type 0 whe
   pub quiet : (j : ℕ) → j < k → fireAt g fm c n j ≡ none
   pub fires : k < 8 → Fires g fm c n k
 
-abbrev pub LowestIs : List ℕ → List ℕ → Moment → Thread → ℕ → Type 0
-LowestIs f table m t r =
-    (r ≤ 8) × ((g : Log) (fm : Formula) (rules : Rules) → Scene g fm f table rules m → Fit fm t → Lowest g fm (configOf (t .config)) (m .number) r)
+abbrev pub LowestIs : List ℕ → List ℕ → List ℕ → List ℕ → Rules → Moment → Thread → ℕ → Type 0
+LowestIs l places f table rules m t r =
+    (r ≤ 8) × ((g : Log) (fm : Formula) → Scene g fm l places f table rules m → Fit g fm t → Lowest g fm (conf g fm t) (m .number) r)
 
 -- "In an ordinary state, steps may be passed over. In a committed state the lowest numbered step that fires is taken": the moves
 -- are those of a range of steps
@@ -97,36 +100,71 @@ pub record Chosen (g : Log) (fm : Formula) (t : Thread) (n : ℕ) (r : Choice) :
   pub moves-are : Runs.moves (machine g fm) n (thread g fm t) ≡ Runs.firing (machine g fm) (thread g fm t) n (r .from) (r .to - r .from)
   pub stays-is : r .stays ≡ Runs.stays (machine g fm) n (thread g fm t)
 
-abbrev pub ChoiceIs : List ℕ → List ℕ → Rules → Moment → Thread → Choice → Type 0
-ChoiceIs f table rules m t r =
-    (r .to ≤ 8) × ((g : Log) (fm : Formula) → Scene g fm f table rules m → Fit fm t → Chosen g fm t (m .number) r)
+abbrev pub ChoiceIs : List ℕ → List ℕ → List ℕ → List ℕ → Rules → Moment → Thread → Choice → Type 0
+ChoiceIs l places f table rules m t r =
+    (r .to ≤ 8) × ((g : Log) (fm : Formula) → Scene g fm l places f table rules m → Fit g fm t → Chosen g fm t (m .number) r)
 
 -- ---- the least run that ends
 
 -- the least so far is one that a search keeps
-abbrev pub BestFits : Formula → Best → Type 0
-BestFits fm b = b .found ≡ true → Fit fm (b .thread)
+abbrev pub BestFits : Log → Formula → Best → Type 0
+BestFits g fm b = b .found ≡ true → Fit g fm (b .thread)
 
 -- the least of the best so far and of those of the threads that have ended
 pub record Improved (g : Log) (fm : Formula) (best : Best) (xs : List (Runs.Thread (machine g fm))) (r : Best) : Type 0 where
   pub least : bestOf g fm r ≡ Runs.leastFrom (machine g fm) (bestOf g fm best) (keep (Runs.ended (machine g fm)) xs)
-  pub fits : BestFits fm r
+  pub fits : BestFits g fm r
 
 -- what step k of the thread's state leaves on event n, as a list of one thread or none
 abbrev pub moveBy : (g : Log) (fm : Formula) → Thread → ℕ → ℕ → List (Runs.Thread (machine g fm))
-moveBy g fm t n k = Runs.arrive (machine g fm) (thread g fm t) n k (fireAt g fm (configOf (t .config)) n k) []
+moveBy g fm t n k = Runs.arrive (machine g fm) (thread g fm t) n k (fireAt g fm (conf g fm t) n k) []
 
-abbrev pub ImprovedIs : List ℕ → List ℕ → Rules → Moment → Best → Thread → ((g : Log) (fm : Formula) → List (Runs.Thread (machine g fm))) → Best → Type 0
-ImprovedIs f table rules m best t xs r =
-    (g : Log) (fm : Formula) → Scene g fm f table rules m → Going fm t → BestFits fm best → Improved g fm best (xs g fm) r
+abbrev pub ImprovedIs : List ℕ → List ℕ → List ℕ → List ℕ → Rules → Moment → Best → Thread → ((g : Log) (fm : Formula) → List (Runs.Thread (machine g fm)))
+    → Best → Type 0
+ImprovedIs l places f table rules m best t xs r =
+    (g : Log) (fm : Formula) → Scene g fm l places f table rules m → Going g fm t → BestFits g fm best → Improved g fm best (xs g fm) r
 
-abbrev pub BetterIs : List ℕ → List ℕ → Rules → Moment → Best → Thread → ℕ → Best → Type 0
-BetterIs f table rules m best t k r = ImprovedIs f table rules m best t (λ g fm. moveBy g fm t (m .number) k) r
+abbrev pub BetterIs : List ℕ → List ℕ → List ℕ → List ℕ → Rules → Moment → Best → Thread → ℕ → Best → Type 0
+BetterIs l places f table rules m best t k r = ImprovedIs l places f table rules m best t (λ g fm. moveBy g fm t (m .number) k) r
 
-abbrev pub EndedIs : List ℕ → List ℕ → Rules → Moment → Best → Thread → Best → Type 0
-EndedIs f table rules m best t r = ImprovedIs f table rules m best t (λ g fm. Runs.moves (machine g fm) (m .number) (thread g fm t)) r
+abbrev pub EndedIs : List ℕ → List ℕ → List ℕ → List ℕ → Rules → Moment → Best → Thread → Best → Type 0
+EndedIs l places f table rules m best t r = ImprovedIs l places f table rules m best t (λ g fm. Runs.moves (machine g fm) (m .number) (thread g fm t)) r
 
 -- ---- the waiting list
+
+-- the lists gathered along a thread's trail, as words
+abbrev pub ListsIs : List ℕ → List ℕ → List ℕ → List ℕ → Rules → Thread → List ℕ → Type 0
+ListsIs l places f table rules t r =
+    (g : Log) (fm : Formula) (m : Moment) → Scene g fm l places f table rules m → Fit g fm t → Holds (gathered g fm (trailOf t)) r
+
+-- which of these values are new to its lists
+abbrev pub FreshIs : List ℕ → List ℕ → List ℕ → List ℕ → Rules → Thread → List ℕ → List Bool → Type 0
+FreshIs l places f table rules t values r =
+    (g : Log) (fm : Formula) (m : Moment) → Scene g fm l places f table rules m → Fit g fm t → IsFresh (gathered g fm (trailOf t)) values r
+
+-- two threads with the same words have gathered the same lists
+abbrev pub SameListsIs : List ℕ → List ℕ → List ℕ → List ℕ → Rules → Thread → Thread → Bool → Type 0
+SameListsIs l places f table rules a b r =
+    (g : Log) (fm : Formula) (m : Moment) → Scene g fm l places f table rules m → Fit g fm a → Fit g fm b → sameWords (a .config) (b .config) ≡ true
+    → r ≡ sameList (sameList eqb) (gathered g fm (trailOf a)) (gathered g fm (trailOf b))
+
+-- threads that stand for the same configuration
+abbrev pub sameAs : Log → Formula → Thread → Thread → Bool
+sameAs g fm b a = same (conf g fm a) (conf g fm b)
+
+-- where the first thread of the list stands that stands for b's configuration
+abbrev pub FoundIs : List ℕ → List ℕ → List ℕ → List ℕ → Rules → Seats → Thread → List ℕ → ℕ → Type 0
+FoundIs l places f table rules s b work r =
+    (r ≤ s .count)
+    × ((g : Log) (fm : Formula) (m : Moment) → Scene g fm l places f table rules m → Kept g fm (s .half) (s .count) work → Fit g fm b
+    → r ≡ position (sameAs g fm b) (list (s .half) (s .count) work))
+
+-- b was inserted there
+abbrev pub InsertIs : List ℕ → List ℕ → List ℕ → List ℕ → Rules → Seats → Thread → List ℕ → List ℕ → ℕ → Type 0
+InsertIs l places f table rules s b before after r =
+    Around (s .half) (s .count) before after r
+    × ((g : Log) (fm : Formula) (m : Moment) → Scene g fm l places f table rules m → Kept g fm (s .half) (s .count) before → Fit g fm b
+    → Inserted (sameAs g fm b) (s .half) (s .count) (s .slots) b before after r)
 
 -- what inserting into the list of one half leaves of the other words; at most one thread too many was counted
 pub record Grown (half slots : ℕ) (before after : List ℕ) (r : ℕ) : Type 0 where
@@ -137,53 +175,50 @@ pub record Grown (half slots : ℕ) (before after : List ℕ) (r : ℕ) : Type 0
 -- the threads bs were inserted one by one within the slots: the list of r threads stands in the half, or one slot more was needed
 abbrev pub Within : (g : Log) (fm : Formula) (half slots : ℕ) (ths bs : List (Runs.Thread (machine g fm))) (after : List ℕ) (r : ℕ) → Type 0
 Within g fm half slots ths bs after r =
-    ((r ≤ slots) × (insertWithin (machine g fm) slots ths bs ≡ some (waitingIn g fm half r after)) × Kept fm half r after)
+    ((r ≤ slots) × (insertWithin (machine g fm) slots ths bs ≡ some (waitingIn g fm half r after)) × Kept g fm half r after)
     ⊎ ((r ≡ suc slots) × (insertWithin (machine g fm) slots ths bs ≡ none))
 
 -- the same, where a thread has the property, into the list that stood there
-abbrev pub InsertedIs : List ℕ → List ℕ → Rules → Moment → Seats → (Formula → Type 0) → ((g : Log) (fm : Formula) → List (Runs.Thread (machine g fm))) → List ℕ
-    → List ℕ → ℕ → Type 0
-InsertedIs f table rules m s Q bs before after r =
+abbrev pub InsertedIs : List ℕ → List ℕ → List ℕ → List ℕ → Rules → Moment → Seats → (Log → Formula → Type 0)
+    → ((g : Log) (fm : Formula) → List (Runs.Thread (machine g fm))) → List ℕ → List ℕ → ℕ → Type 0
+InsertedIs l places f table rules m s Q bs before after r =
     Grown (s .half) (s .slots) before after r
-    × ((g : Log) (fm : Formula) → Scene g fm f table rules m → Kept fm (s .half) (s .count) before → Q fm
+    × ((g : Log) (fm : Formula) → Scene g fm l places f table rules m → Kept g fm (s .half) (s .count) before → Q g fm
     → Within g fm (s .half) (s .slots) (waitingIn g fm (s .half) (s .count) before) (bs g fm) after r)
 
 -- the thread, if some step of its state is not expired
-abbrev pub WaitsIs : List ℕ → List ℕ → List Bool → Latest → Seats → Thread → List ℕ → List ℕ → ℕ → Type 0
-WaitsIs f table rises latest s b before after r =
-    Grown (s .half) (s .slots) before after r
-    × ((rules : Rules) (m : Moment) → rules .rises ≡ rises → m .latest ≡ latest → (g : Log) (fm : Formula) → Scene g fm f table rules m
-    → Kept fm (s .half) (s .count) before → Going fm b
-    → Within g fm (s .half) (s .slots) (waitingIn g fm (s .half) (s .count) before) (keep (Runs.hopeful (machine g fm) (m .number)) (thread g fm b ∷ [])) after
-    r)
+abbrev pub WaitsIs : List ℕ → List ℕ → List ℕ → List ℕ → Rules → Moment → Seats → Thread → List ℕ → List ℕ → ℕ → Type 0
+WaitsIs l places f table rules m s b before after r =
+    InsertedIs l places f table rules m s (λ g fm. Going g fm b) (λ g fm. keep (Runs.hopeful (machine g fm) (m .number)) (thread g fm b ∷ [])) before after r
 
 -- "Waiting after n are the distinct configurations of partial runs .. of 1 to 31 steps .. from which some step is not hopeless":
 -- those of the threads that may wait after n
 abbrev pub offered : (g : Log) (fm : Formula) → ℕ → List (Runs.Thread (machine g fm)) → List (Runs.Thread (machine g fm))
 offered g fm n xs = keep (Runs.hopeful (machine g fm) n) (keep (Runs.unended (machine g fm)) xs)
 
-abbrev pub OfferIs : List ℕ → List ℕ → Rules → Moment → Seats → Thread → List ℕ → List ℕ → ℕ → Type 0
-OfferIs f table rules m s b before after r =
-    InsertedIs f table rules m s (λ fm. Fit fm b) (λ g fm. offered g fm (m .number) (thread g fm b ∷ [])) before after r
+abbrev pub OfferIs : List ℕ → List ℕ → List ℕ → List ℕ → Rules → Moment → Seats → Thread → List ℕ → List ℕ → ℕ → Type 0
+OfferIs l places f table rules m s b before after r =
+    InsertedIs l places f table rules m s (λ g fm. Fit g fm b) (λ g fm. offered g fm (m .number) (thread g fm b ∷ [])) before after r
 
 -- what the thread's step k leaves, if it may wait
-abbrev pub OfferMoveIs : List ℕ → List ℕ → Rules → Moment → Seats → Thread → ℕ → List ℕ → List ℕ → ℕ → Type 0
-OfferMoveIs f table rules m s t k before after r =
-    InsertedIs f table rules m s (λ fm. Going fm t) (λ g fm. offered g fm (m .number) (moveBy g fm t (m .number) k)) before after r
+abbrev pub OfferMoveIs : List ℕ → List ℕ → List ℕ → List ℕ → Rules → Moment → Seats → Thread → ℕ → List ℕ → List ℕ → ℕ → Type 0
+OfferMoveIs l places f table rules m s t k before after r =
+    InsertedIs l places f table rules m s (λ g fm. Going g fm t) (λ g fm. offered g fm (m .number) (moveBy g fm t (m .number) k)) before after r
 
 -- what the steps that the thread may take leave, by rising step number
-abbrev pub OfferMovesIs : List ℕ → List ℕ → Rules → Moment → Seats → Thread → Choice → List ℕ → List ℕ → ℕ → Type 0
-OfferMovesIs f table rules m s t choice before after r =
-    InsertedIs f table rules m s (λ fm. Going fm t)
+abbrev pub OfferMovesIs : List ℕ → List ℕ → List ℕ → List ℕ → Rules → Moment → Seats → Thread → Choice → List ℕ → List ℕ → ℕ → Type 0
+OfferMovesIs l places f table rules m s t choice before after r =
+    InsertedIs l places f table rules m s (λ g fm. Going g fm t)
     (λ g fm. offered g fm (m .number) (Runs.firing (machine g fm) (thread g fm t) (m .number) (choice .from) (choice .to - choice .from))) before after r
 
 -- the thread as it stands, if it may stay and wait
-abbrev pub StayIs : List ℕ → List ℕ → Rules → Moment → Seats → Thread → Bool → List ℕ → List ℕ → ℕ → Type 0
-StayIs f table rules m s t stays before after r =
-    InsertedIs f table rules m s (λ fm. Going fm t) (λ g fm. keep (Runs.hopeful (machine g fm) (m .number)) (only stays (thread g fm t) [])) before after r
+abbrev pub StayIs : List ℕ → List ℕ → List ℕ → List ℕ → Rules → Moment → Seats → Thread → Bool → List ℕ → List ℕ → ℕ → Type 0
+StayIs l places f table rules m s t stays before after r =
+    InsertedIs l places f table rules m s (λ g fm. Going g fm t) (λ g fm. keep (Runs.hopeful (machine g fm) (m .number)) (only stays (thread g fm t) []))
+    before after r
 
 -- what the thread offers on the event that may wait after it: its stay, then its moves
-abbrev pub OfferAllIs : List ℕ → List ℕ → Rules → Moment → Seats → Thread → List ℕ → List ℕ → ℕ → Type 0
-OfferAllIs f table rules m s t before after r =
-    InsertedIs f table rules m s (λ fm. Going fm t)
+abbrev pub OfferAllIs : List ℕ → List ℕ → List ℕ → List ℕ → Rules → Moment → Seats → Thread → List ℕ → List ℕ → ℕ → Type 0
+OfferAllIs l places f table rules m s t before after r =
+    InsertedIs l places f table rules m s (λ g fm. Going g fm t)
     (λ g fm. keep (Runs.hopeful (machine g fm) (m .number)) (Runs.offers (machine g fm) (m .number) (thread g fm t))) before after r

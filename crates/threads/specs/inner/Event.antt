@@ -33,8 +33,8 @@ abbrev pub waitingIn : (g : Log) (fm : Formula) (half count : ℕ) (work : List 
 waitingIn g fm half count work = map (thread g fm) (list half count work)
 
 -- every thread of the list is one that a search keeps, with at most 31 steps
-pub record Kept (fm : Formula) (half count : ℕ) (work : List ℕ) : Type 0 where
-  pub fit : All (Fit fm) (list half count work)
+pub record Kept (g : Log) (fm : Formula) (half count : ℕ) (work : List ℕ) : Type 0 where
+  pub fit : All (Fit g fm) (list half count work)
   pub short : All (λ (t : Thread). t .steps < 32) (list half count work)
 
 -- the slots are within the words, the list within the slots
@@ -42,19 +42,19 @@ abbrev pub Seated : Seats → List ℕ → Type 0
 Seated s work = (s .slots * 192 ≤ length work) × (s .half < 2) × (s .count ≤ s .slots)
 
 -- the least run that ends on the event, of the threads that wait
-abbrev pub EndingIs : List ℕ → List ℕ → Rules → Moment → Seats → List ℕ → Best → Type 0
-EndingIs f table rules m s work r =
-    (g : Log) (fm : Formula) → Scene g fm f table rules m → Kept fm (s .half) (s .count) work
+abbrev pub EndingIs : List ℕ → List ℕ → List ℕ → List ℕ → Rules → Moment → Seats → List ℕ → Best → Type 0
+EndingIs l places f table rules m s work r =
+    (g : Log) (fm : Formula) → Scene g fm l places f table rules m → Kept g fm (s .half) (s .count) work
     → (bestOf g fm r ≡ Runs.least (machine g fm) (Runs.endings (machine g fm) (m .number) (waitingIn g fm (s .half) (s .count) work)))
-    × (r .found ≡ true → Fit fm (r .thread))
+    × (r .found ≡ true → Fit g fm (r .thread))
 
 -- the next waiting list stands in the other half, or it has more threads than there are slots
 abbrev pub AdvancedTo : (g : Log) (fm : Formula) (n : ℕ) (s : Seats) (before after : List ℕ) (r : ℕ) → Type 0
 AdvancedTo g fm n s before after r =
     ((r ≤ s .slots) × (insertWithin (machine g fm) (s .slots) [] (candidates (machine g fm) n (waitingIn g fm (s .half) (s .count) before))
-    ≡ some (waitingIn g fm (1 - s .half) r after)) × Kept fm (1 - s .half) r after)
+    ≡ some (waitingIn g fm (1 - s .half) r after)) × Kept g fm (1 - s .half) r after)
     ⊎ ((r ≡ suc (s .slots)) × (insertWithin (machine g fm) (s .slots) [] (candidates (machine g fm) n (waitingIn g fm (s .half) (s .count) before)) ≡ none))
 
-abbrev pub AdvancedIs : List ℕ → List ℕ → Rules → Moment → Seats → List ℕ → List ℕ → ℕ → Type 0
-AdvancedIs f table rules m s before after r =
-    (g : Log) (fm : Formula) → Scene g fm f table rules m → Kept fm (s .half) (s .count) before → AdvancedTo g fm (m .number) s before after r
+abbrev pub AdvancedIs : List ℕ → List ℕ → List ℕ → List ℕ → Rules → Moment → Seats → List ℕ → List ℕ → ℕ → Type 0
+AdvancedIs l places f table rules m s before after r =
+    (g : Log) (fm : Formula) → Scene g fm l places f table rules m → Kept g fm (s .half) (s .count) before → AdvancedTo g fm (m .number) s before after r

@@ -1,4 +1,6 @@
 -- `keeping::advance` meets its contract: each case is its line.
+use Rattle.formula_code.specs.inner.Scan.{Ready}
+use mathlib.Core.Path.{subst}
 use borrow.Author.Needs.{needs}
 use Rattle.formula_code.proofs.keeping.advance.Statement.{statement}
 use Rattle.formula_code.proofs.keeping.advance.Tie as tie
@@ -12,14 +14,14 @@ add-n c = search needs
 enum-known-c-2 : tie.Need-enum-known-c-2
 enum-known-c-2 c = search needs
 
-add-t10 : tie.Need-add-t10
-add-t10 c = search needs
+add-t11 : tie.Need-add-t11
+add-t11 c = search needs
 
 enum-known-c-3 : tie.Need-enum-known-c-3
 enum-known-c-3 c = search needs
 
-add-t12 : tie.Need-add-t12
-add-t12 c = search needs
+add-t14 : tie.Need-add-t14
+add-t14 c = search needs
 
 enum-told : tie.Need-enum-told
 enum-told c = search needs
@@ -38,6 +40,14 @@ enum-known-c-5 c = search needs
 
 one-clause-more-requires-3 : tie.Need-one-clause-more-requires-3
 one-clause-more-requires-3 c κs = search needs
+
+enum-known-c-6 : tie.Need-enum-known-c-6
+enum-known-c-6 c = search needs
+
+one-gather-more-requires : tie.Need-one-gather-more-requires
+one-gather-more-requires c κs =
+    let p = c .before .before .before in
+    let r = subst (Ready (p .args .s)) (c .before .c6 .given .1) (p .pre .1) in (p .pre .0 .clauses, r .2)
 
 enum-told-2 : tie.Need-enum-told-2
 enum-told-2 c = search needs
@@ -61,7 +71,10 @@ returns-6 : tie.Need-returns-6
 returns-6 c = rw (c .before .before .c5 .given .1) (c .one-clause-more3 .ensures)
 
 returns-7 : tie.Need-returns-7
-returns-7 c = rw (c .enum-told2 .given .1)
+returns-7 c = rw (c .before .before .c6 .given .1) (c .one-gather-more .ensures)
+
+returns-8 : tie.Need-returns-8
+returns-8 c = rw (c .enum-told2 .given .1)
 
 pub advance-spec : {M : Type 1} → statement M
 advance-spec =
@@ -70,15 +83,17 @@ advance-spec =
     enum-known-c
     add-n
     enum-known-c-2
-    add-t10
+    add-t11
     enum-known-c-3
-    add-t12
+    add-t14
     enum-told
     one-clause-more-requires
     enum-known-c-4
     one-clause-more-requires-2
     enum-known-c-5
     one-clause-more-requires-3
+    enum-known-c-6
+    one-gather-more-requires
     enum-told-2
     returns
     returns-2
@@ -86,4 +101,5 @@ advance-spec =
     returns-4
     returns-5
     returns-6
-    returns-7)
+    returns-7
+    returns-8)

@@ -14,7 +14,7 @@ enum-known-c c = search needs
 returns : tie.Need-returns
 returns c =
     let a = c .before .args in
-    unless-step (fromWith (a .from .now) (a .count) (a .s .states)) (a .from .now) (λ v. refl) (λ k. refl) refl (λ v. refl) (λ v. refl) refl (a .c)
+    unless-step (fromWith (a .from .now) (a .count) (a .s .states)) (a .from .now) (λ v. refl) (λ k. refl) refl (λ v. refl) (λ v. refl) (λ v. refl) refl (a .c)
     (c .match .keys2)
 
 sub-from : tie.Need-sub-from

@@ -14,7 +14,8 @@ enum-known-c c = search needs
 returns : tie.Need-returns
 returns c =
     let a = c .before .args in
-    unless-step (tableWith (a .table .now) (a .s) (a .at)) (a .table .now) (λ v. refl) (λ k. refl) refl (λ v. refl) (λ v. refl) refl (a .c) (c .match .keys2)
+    unless-step (tableWith (a .table .now) (a .s) (a .at)) (a .table .now) (λ v. refl) (λ k. refl) refl (λ v. refl) (λ v. refl) (λ v. refl) refl (a .c)
+    (c .match .keys2)
 
 sub-table : tie.Need-sub-table
 sub-table c =

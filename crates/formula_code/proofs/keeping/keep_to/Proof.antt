@@ -14,7 +14,7 @@ enum-known-c c = search needs
 returns : tie.Need-returns
 returns c =
     let a = c .before .args in
-    unless-step (toWith (a .to .now) (a .count)) (a .to .now) (λ v. refl) (λ k. refl) refl (λ v. refl) (λ v. refl) refl (a .c) (c .match .keys2)
+    unless-step (toWith (a .to .now) (a .count)) (a .to .now) (λ v. refl) (λ k. refl) refl (λ v. refl) (λ v. refl) (λ v. refl) refl (a .c) (c .match .keys2)
 
 mul-to : tie.Need-mul-to
 mul-to c = search needs

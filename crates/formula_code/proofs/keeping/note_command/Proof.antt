@@ -53,14 +53,17 @@ note-requires-2 c κs =
 enum-known-c-5 : tie.Need-enum-known-c-5
 enum-known-c-5 c = search needs
 
+enum-known-c-6 : tie.Need-enum-known-c-6
+enum-known-c-6 c = search needs
+
 enum-told-2 : tie.Need-enum-told-2
 enum-told-2 c = search needs
 
 returns : tie.Need-returns
-returns c = search needs
+returns c = rw (c .before .c .given .1)
 
 returns-2 : tie.Need-returns-2
-returns-2 c = search needs
+returns-2 c = rw (c .before .c2 .given .1)
 
 returns-3 : tie.Need-returns-3
 returns-3 c =
@@ -68,7 +71,7 @@ returns-3 c =
     rw (c4 .c3 .given .1, ← (c .before .state-key .ensures .0)) (c .note .ensures)
 
 returns-4 : tie.Need-returns-4
-returns-4 c = search needs
+returns-4 c = rw (c .enum-told .given .1)
 
 returns-5 : tie.Need-returns-5
 returns-5 c =
@@ -76,10 +79,13 @@ returns-5 c =
     rw (c4 .c4 .given .1, ← (c .before .before2 .ensures)) (c .note2 .ensures)
 
 returns-6 : tie.Need-returns-6
-returns-6 c = search needs
+returns-6 c = rw (c .before .c5 .given .1)
 
 returns-7 : tie.Need-returns-7
-returns-7 c = search needs
+returns-7 c = rw (c .before .c6 .given .1)
+
+returns-8 : tie.Need-returns-8
+returns-8 c = rw (c .enum-told2 .given .1)
 
 pub note-command-spec : {M : Type 1} → statement M
 note-command-spec =
@@ -97,6 +103,7 @@ note-command-spec =
     add-note
     note-requires-2
     enum-known-c-5
+    enum-known-c-6
     enum-told-2
     returns
     returns-2
@@ -104,4 +111,5 @@ note-command-spec =
     returns-4
     returns-5
     returns-6
-    returns-7)
+    returns-7
+    returns-8)

@@ -29,6 +29,9 @@ array-write-n c =
     let c3 = c .before .before .before in
     let r = subst (Ready (c3 .args .s)) (c .before .c5 .given .1) (c3 .pre) in omega (arith, r .2)
 
+enum-known-c-6 : tie.Need-enum-known-c-6
+enum-known-c-6 c = search needs
+
 enum-told-2 : tie.Need-enum-told-2
 enum-told-2 c = search needs
 
@@ -53,6 +56,9 @@ returns-6 c = rw (c .before .c5 .given .1)
 returns-7 : tie.Need-returns-7
 returns-7 c = search needs
 
+returns-8 : tie.Need-returns-8
+returns-8 c = search needs
+
 pub own-after-spec : {M : Type 1} → statement M
 own-after-spec =
     tie.close
@@ -64,6 +70,7 @@ own-after-spec =
     enum-known-c-4
     enum-known-c-5
     array-write-n
+    enum-known-c-6
     enum-told-2
     returns
     returns-2
@@ -71,4 +78,5 @@ own-after-spec =
     returns-4
     returns-5
     returns-6
-    returns-7)
+    returns-7
+    returns-8)

@@ -12,7 +12,7 @@ enum-known-c c = search needs
 returns : tie.Need-returns
 returns c =
     let a = c .before .args in
-    unless-step (countWith (a .count)) (a .count) (λ v. refl) (λ k. refl) refl (λ v. refl) (λ v. refl) refl (a .c) (c .match .keys2)
+    unless-step (countWith (a .count)) (a .count) (λ v. refl) (λ k. refl) refl (λ v. refl) (λ v. refl) (λ v. refl) refl (a .c) (c .match .keys2)
 
 add-result : tie.Need-add-result
 add-result c = search needs

@@ -20,15 +20,15 @@ use Rattle.guard_code.proofs.guard.operand_count.Reads as operand-count
 use Rattle.guard_code.proofs.guard.+evaluate.{statement}
 use Rattle.guard_code.proofs.guard.+evaluate.Tie.{close}
 
-abbrev μ-evaluate : Measures 3 evaluate-kinds.ps ℕ
-μ-evaluate κs a = a .1 .1 .1 .0
+abbrev μ-evaluate : Measures 4 evaluate-kinds.ps ℕ
+μ-evaluate κs a = a .1 .1 .1 .1 .0
 
-abbrev evaluate-at : ℕ → In 3 evaluate-kinds.ps
-evaluate-at t = and 3 evaluate-kinds.ps (is 3 evaluate-kinds.ps μ-evaluate t) evaluate.Pre
+abbrev evaluate-at : ℕ → In 4 evaluate-kinds.ps
+evaluate-at t = and 4 evaluate-kinds.ps (is 4 evaluate-kinds.ps μ-evaluate t) evaluate.Pre
 
-abbrev evaluate-below : ℕ → In 3 evaluate-kinds.ps
+abbrev evaluate-below : ℕ → In 4 evaluate-kinds.ps
 evaluate-below t =
-    and 3 evaluate-kinds.ps (falls 3 evaluate-kinds.ps _<_ μ-evaluate t) evaluate.Pre
+    and 4 evaluate-kinds.ps (falls 4 evaluate-kinds.ps _<_ μ-evaluate t) evaluate.Pre
 
 -- what is known of the functions that it calls
 abbrev evaluate-callees : ℕ → evaluate-lts.Claims
@@ -50,11 +50,11 @@ evaluate-callees t = (
 -- what is known of a command with operands, and of the operands read so far
 abbrev evaluate-evaluation : (t : ℕ) → evaluate-lts.Else2 (evaluate-callees t) (evaluate-at t) evaluate.Post → Evaluation
 evaluate-evaluation t c =
-    let c7 = c .before .before .before .before .before .before .before in
-    let a = c7 .args in
+    let c8 = c .before .before .before .before .before .before .before .before in
+    let a = c8 .args in
     record {
       depth = a .depth;
-      leaf = leafValue (now (a .values)) (now (a .counters));
+      leaf = leafValue (now (a .values)) (now (a .counters)) (now (a .tallies));
       part = now (a .part);
       o = c .before .before .byte-at .result;
       n = c .before .operand-count .result;
@@ -64,13 +64,13 @@ evaluate-scene : (t : ℕ) (c : evaluate-lts.Else2 (evaluate-callees t) (evaluat
     → let x = evaluate-evaluation t c in Scene (x .depth) (x .part) (x .o) (x .n)
 evaluate-scene t c =
     let c3 = c .before .before .before in
-    let c7 = c3 .before .before .before .before in
+    let c8 = c3 .before .before .before .before .before in
     record {
       deep = c3 .if1 .left;
       command = c .before .before .byte-at .ensures .0;
       count = c .before .operand-count .ensures;
       some = c .if2 .left;
-      countable = omega (arith, c7 .good .0);
+      countable = omega (arith, c8 .good .0);
     }
 
 evaluate-first : (t : ℕ) (c : evaluate-lts.After-evaluate (evaluate-callees t) (evaluate-at t) evaluate.Post)
@@ -124,7 +124,8 @@ evaluate-part-evaluate-end : (t : ℕ) → evaluate-lts.Need-part-evaluate-end (
 evaluate-part-evaluate-end t c = search needs
 
 evaluate-evaluate-requires : (t : ℕ) → evaluate-lts.Need-evaluate-requires (evaluate-callees t) (evaluate-at t) evaluate.Post
-evaluate-evaluate-requires t c κs = let d = c .before in (deeper (evaluate-scene t d) t (d .before .before .before .before .before .before .before .pre .0), tt)
+evaluate-evaluate-requires t c κs =
+    let d = c .before in (deeper (evaluate-scene t d) t (d .before .before .before .before .before .before .before .before .pre .0), tt)
 
 evaluate-add-second : (t : ℕ) → evaluate-lts.Need-add-second (evaluate-callees t) (evaluate-at t) evaluate.Post
 evaluate-add-second t c = let p = evaluate-first t (c .before) in omega (arith, fits (p .scene) _ (first-inside p))
@@ -150,7 +151,7 @@ evaluate-evaluate-requires-2 : (t : ℕ) → evaluate-lts.Need-evaluate-requires
 evaluate-evaluate-requires-2 t c κs =
     let c5 = c .before .before .before .before .before in
     let c5 = c5 in
-    let d = c5 in (deeper (evaluate-scene t d) t (d .before .before .before .before .before .before .before .pre .0), tt)
+    let d = c5 in (deeper (evaluate-scene t d) t (d .before .before .before .before .before .before .before .before .pre .0), tt)
 
 evaluate-add-third : (t : ℕ) → evaluate-lts.Need-add-third (evaluate-callees t) (evaluate-at t) evaluate.Post
 evaluate-add-third t c = let p = evaluate-second t (c .before) in omega (arith, fits (p .before .scene) _ (second-inside p))
@@ -176,13 +177,13 @@ evaluate-evaluate-requires-3 : (t : ℕ) → evaluate-lts.Need-evaluate-requires
 evaluate-evaluate-requires-3 t c κs =
     let c9 = c .before .before .before .before .before .before .before .before .before in
     let c9 = c9 in
-    let d = c9 in (deeper (evaluate-scene t d) t (d .before .before .before .before .before .before .before .pre .0), tt)
+    let d = c9 in (deeper (evaluate-scene t d) t (d .before .before .before .before .before .before .before .before .pre .0), tt)
 
 evaluate-apply-requires-3 : (t : ℕ) → evaluate-lts.Need-apply-requires-3 (evaluate-callees t) (evaluate-at t) evaluate.Post
 evaluate-apply-requires-3 t c κs = search needs
 
-evaluate-add-t17 : (t : ℕ) → evaluate-lts.Need-add-t17 (evaluate-callees t) (evaluate-at t) evaluate.Post
-evaluate-add-t17 t c = let d = c .before .before in
+evaluate-add-used : (t : ℕ) → evaluate-lts.Need-add-used (evaluate-callees t) (evaluate-at t) evaluate.Post
+evaluate-add-used t c = let d = c .before .before in
     let p = evaluate-second t (d .before .before .before .before) in
     omega (arith, fits (p .before .scene) _ (third-inside p (d .evaluate3 .ensures)))
 
@@ -222,5 +223,5 @@ pub +evaluate-spec : {M : Type 1} → statement M
     (evaluate-part-evaluate-end-3 t)
     (evaluate-evaluate-requires-3 t)
     (evaluate-apply-requires-3 t)
-    (evaluate-add-t17 t)
+    (evaluate-add-used t)
     (evaluate-returns-5 t)

@@ -36,13 +36,15 @@ slice-aggregate-evaluate c = search needs
 slice-aggregate-evaluate-2 : tie.Need-slice-aggregate-evaluate-2
 slice-aggregate-evaluate-2 c = search needs
 
+slice-aggregate-evaluate-3 : tie.Need-slice-aggregate-evaluate-3
+slice-aggregate-evaluate-3 c = search needs
+
 evaluate-requires : tie.Need-evaluate-requires
 evaluate-requires c κs = search needs
 
 returns : tie.Need-returns
 returns c =
-    let c5 = c .before .before .before .before .before in
-    let d = c5 in
+    let d = c .before .before .before .before .before .before in
     guard-read _ _ _ (d .before .byte-at .ensures .0) (d .if1 .taken) (c .before .evaluate .ensures)
 
 returns-2 : tie.Need-returns-2
@@ -59,6 +61,7 @@ guard-holds-spec =
     part-evaluate-end
     slice-aggregate-evaluate
     slice-aggregate-evaluate-2
+    slice-aggregate-evaluate-3
     evaluate-requires
     returns
     returns-2)

@@ -7,7 +7,7 @@ use Rattle.machine_code.proofs.expiring.expired.Tie as tie
 
 returns : tie.Need-returns
 returns c =
-    let a = c .before .before .args in lapsed-out (now (a .f)) (a .at) (a .c) (a .rises) (a .latest .values) (c .if1 .taken)
+    let a = c .before .before .args in lapsed-out (now (a .f)) (a .at) (a .c) (a .fresh) (a .rises) (a .latest .values) (c .if1 .taken)
 
 walk-requires : tie.Need-walk-requires
 walk-requires c κs = search needs
@@ -15,13 +15,12 @@ walk-requires c κs = search needs
 returns-2 : tie.Need-returns-2
 returns-2 c =
     let c3 = c .before .before .before in
-    let c3 = c3 in
     let a = c3 .before .before .args in
-    lapsed-due (now (a .f)) (a .at) (a .c) (a .rises) (a .latest .values) (c .before .walk .result) (c3 .if1 .left) (c .before .walk .ensures)
+    lapsed-due (now (a .f)) (a .at) (a .c) (a .fresh) (a .rises) (a .latest .values) (c .before .walk .result) (c3 .if1 .left) (c .before .walk .ensures)
     (c .if2 .taken)
 
-guard-falls-requires : tie.Need-guard-falls-requires
-guard-falls-requires c κs = search needs
+falls-behind-requires : tie.Need-falls-behind-requires
+falls-behind-requires c κs = search needs
 
 raise-requires : tie.Need-raise-requires
 raise-requires c κs = search needs
@@ -31,23 +30,21 @@ guard-holds-requires c κs = search needs
 
 returns-3 : tie.Need-returns-3
 returns-3 c =
-    let c4 = c .before .before .before .before in
-    let c4 = c4 in
-    let c8 = c4 .before .before .before .before in
+    let c5 = c .before .before .before .before .before in
+    let c8 = c5 .before .before .before in
     let c11 = c8 .before .before .before in
     let a = c11 .before .before .args in
-    lapsed-guard (now (a .f)) (a .at) (a .c) (a .rises) (a .latest .values) (c8 .before .walk .result) (c11 .if1 .left) (c8 .before .walk .ensures)
-    (c .before .raise .result) (c4 .before .guard-falls .result) _ (c8 .if2 .left) (c .before .raise .ensures) (c4 .before .guard-falls .ensures)
-    (c4 .if3 .taken) (c .guard-holds .ensures)
+    lapsed-guard (now (a .f)) (a .at) (a .c) (a .fresh) (a .rises) (a .latest .values) (c8 .before .walk .result) (c11 .if1 .left) (c8 .before .walk .ensures)
+    (c .before .raise .result) (c5 .before .falls-behind .result) _ (c8 .if2 .left) (c .before .raise .ensures) (c5 .before .falls-behind .ensures)
+    (c5 .if3 .taken) (c .guard-holds .ensures)
 
 returns-4 : tie.Need-returns-4
 returns-4 c =
-    let c4 = c .before .before .before .before in
-    let c4 = c4 in
-    let c7 = c4 .before .before .before in
-    let a = c7 .before .before .args in
-    lapsed-not (now (a .f)) (a .at) (a .c) (a .rises) (a .latest .values) (c4 .before .walk .result) (c7 .if1 .left) (c4 .before .walk .ensures)
-    (c .before .guard-falls .result) (c4 .if2 .left) (c .before .guard-falls .ensures) (c .if3 .left)
+    let c3 = c .before .before .before in
+    let c6 = c3 .before .before .before in
+    let a = c6 .before .before .args in
+    lapsed-not (now (a .f)) (a .at) (a .c) (a .fresh) (a .rises) (a .latest .values) (c3 .before .walk .result) (c6 .if1 .left) (c3 .before .walk .ensures)
+    (c .before .falls-behind .result) (c3 .if2 .left) (c .before .falls-behind .ensures) (c .if3 .left)
 
 pub expired-spec : {M : Type 1} → statement M
 expired-spec =
@@ -56,7 +53,7 @@ expired-spec =
     returns
     walk-requires
     returns-2
-    guard-falls-requires
+    falls-behind-requires
     raise-requires
     guard-holds-requires
     returns-3

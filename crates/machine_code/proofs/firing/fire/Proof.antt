@@ -7,7 +7,7 @@ use Rattle.machine_code.proofs.firing.fire.Tie as tie
 
 returns : tie.Need-returns
 returns c =
-    let a = c .before .before .args in fired-out (now (a .f)) (a .at) (a .c) (a .event .values) (c .if1 .taken)
+    let a = c .before .before .args in fired-out (now (a .f)) (a .at) (a .c) (a .fresh) (a .event .values) (c .if1 .taken)
 
 add-byte-at : tie.Need-add-byte-at
 add-byte-at c = search needs
@@ -26,22 +26,21 @@ guard-holds-requires c κs = search needs
 
 returns-2 : tie.Need-returns-2
 returns-2 c =
-    let c6 = c .before .before .before .before .before .before in
-    let c6 = c6 in
-    let c9 = c6 .before .before .before in
-    let a = c9 .before .before .args in
-    fired-guard (now (a .f)) (a .at) (a .c) (a .event .values) (c6 .walk .result) (c .before .before .raise .result)
-    (c6 .before .before .byte-at .result) (c9 .if1 .left) (c6 .walk .ensures) (c .before .before .raise .ensures)
-    (c6 .before .before .byte-at .ensures .0) (c .guard-holds .result) (c .before .if2 .taken) (c .guard-holds .ensures)
+    let c7 = c .before .before .before .before .before .before .before in
+    let c10 = c7 .before .before .before in
+    let a = c10 .before .before .args in
+    fired-guard (now (a .f)) (a .at) (a .c) (a .fresh) (a .event .values) (c7 .walk .result) (c .before .before .raise .result)
+    (c7 .before .before .byte-at .result) (c10 .if1 .left) (c7 .walk .ensures) (c .before .before .raise .ensures)
+    (c7 .before .before .byte-at .ensures .0) (c .guard-holds .result) (c .before .if2 .taken) (c .guard-holds .ensures)
 
 returns-3 : tie.Need-returns-3
 returns-3 c =
-    let c5 = c .before .before .before .before .before in
-    let c5 = c5 in
-    let c8 = c5 .before .before .before in
-    let a = c8 .before .before .args in
-    fired-failed (now (a .f)) (a .at) (a .c) (a .event .values) (c5 .walk .result) (c .before .raise .result) (c5 .before .before .byte-at .result)
-    (c8 .if1 .left) (c5 .walk .ensures) (c .before .raise .ensures) (c5 .before .before .byte-at .ensures .0) (c .if2 .left)
+    let c6 = c .before .before .before .before .before .before in
+    let c9 = c6 .before .before .before in
+    let a = c9 .before .before .args in
+    fired-failed (now (a .f)) (a .at) (a .c) (a .fresh) (a .event .values) (c6 .walk .result) (c .before .raise .result)
+    (c6 .before .before .byte-at .result) (c9 .if1 .left) (c6 .walk .ensures) (c .before .raise .ensures) (c6 .before .before .byte-at .ensures .0)
+    (c .if2 .left)
 
 pub fire-spec : {M : Type 1} → statement M
 fire-spec =

@@ -18,7 +18,13 @@ returns-3 c = rw (c .match .keys3)
 
 returns-4 : tie.Need-returns-4
 unfolding widthOf
-returns-4 c = rw (ne-eqb _ _ (c .match .rest .0 .0 .1), ne-eqb _ _ (c .match .rest .0 .1), ne-eqb _ _ (c .match .rest .1))
+returns-4 c = rw (c .match .keys4)
+
+returns-5 : tie.Need-returns-5
+unfolding widthOf
+returns-5 c =
+    let k = c .match .rest in
+    rw (ne-eqb _ _ (k .0 .0 .0 .1), ne-eqb _ _ (k .0 .0 .1), ne-eqb _ _ (k .0 .1), ne-eqb _ _ (k .1))
 
 pub width-spec : {M : Type 1} → statement M
-width-spec = tie.close (tie.spec returns returns-2 returns-3 returns-4)
+width-spec = tie.close (tie.spec returns returns-2 returns-3 returns-4 returns-5)

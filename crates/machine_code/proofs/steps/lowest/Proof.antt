@@ -15,17 +15,17 @@ use Rattle.machine_code.proofs.steps.lowest.Statement.{statement}
 use Rattle.machine_code.proofs.steps.lowest.Tie as tie
 
 abbrev Inv-loop : tie.InvT-loop
-Inv-loop f table c fields prior counters next k at w₀ w = Walking f prior (replicate 8 false) fields w₀ w × (w .passes ≡ true)
+Inv-loop f table c fresh fields prior counters next k at w₀ w = Walking f prior fresh (replicate 8 false) fields w₀ w × (w .passes ≡ true)
 
 abbrev μ-loop : tie.MeasureT-loop
-μ-loop f table c fields prior counters next k at w₀ w = length f - w .at
+μ-loop f table c fresh fields prior counters next k at w₀ w = length f - w .at
 
 abbrev Inv-steps : tie.InvT-steps
-Inv-steps f table c fields prior counters next₀ next =
-    (next ≤ 8) × (lowestOf (firesAt f table c fields) ≡ lowestFrom (firesAt f table c fields) next (8 - next))
+Inv-steps f table c fresh fields prior counters next₀ next =
+    (next ≤ 8) × (lowestOf (firesAt f table c fresh fields) ≡ lowestFrom (firesAt f table c fresh fields) next (8 - next))
 
 abbrev μ-steps : tie.MeasureT-steps
-μ-steps f table c fields prior counters next₀ next = 8 - next
+μ-steps f table c fresh fields prior counters next₀ next = 8 - next
 
 raise-requires : tie.Need-raise-requires Inv-loop μ-loop Inv-steps μ-steps
 raise-requires c κs = search needs
@@ -34,7 +34,7 @@ steps-holds : tie.Need-steps-holds Inv-loop μ-loop Inv-steps μ-steps
 steps-holds c =
     let c6 = c .before .before .before .before .before .before in
     let a = c6 .args in
-    (omega arith, lowest-start (firesAt (now (a .f)) (now (a .table)) (a .c) (a .event .values)))
+    (omega arith, lowest-start (firesAt (now (a .f)) (now (a .table)) (a .c) (a .fresh) (a .event .values)))
 
 add-next : tie.Need-add-next Inv-loop μ-loop Inv-steps μ-steps
 add-next c = search needs
@@ -56,8 +56,8 @@ steps-again c =
     let c3 = c3 in
     let a = c3 .before .before .before .before .before .before .before .before .args in (
       omega (arith, c3 .if1 .left),
-      lowest-next (firesAt (now (a .f)) (now (a .table)) (a .c) (a .event .values)) (c3 .before .steps .next) (c3 .if1 .left)
-          (fires-absent (now (a .f)) (now (a .table)) (a .c) (a .event .values) (c3 .before .steps .next) (c .before .before .step-offset .result)
+      lowest-next (firesAt (now (a .f)) (now (a .table)) (a .c) (a .fresh) (a .event .values)) (c3 .before .steps .next) (c3 .if1 .left)
+          (fires-absent (now (a .f)) (now (a .table)) (a .c) (a .fresh) (a .event .values) (c3 .before .steps .next) (c .before .before .step-offset .result)
           (c .before .before .step-offset .ensures) (sym (c .before .is-step .ensures) ∙ not-true _ (c .if2 .taken)))
           (c3 .before .steps .inv .1),
     )
@@ -75,7 +75,7 @@ unfolding begun
 loop-holds c =
     let c12 = c .before .before .before .before .before .before .before .before .before .before .before .before in
     let a = c12 .args in (
-      walking-start (now (a .f)) (a .c .values) (replicate 8 false) (a .event .values) (c .begin .result),
+      walking-start (now (a .f)) (a .c .values) (a .fresh) (replicate 8 false) (a .event .values) (c .begin .result),
       ap (λ (w : Walked). w .passes) (c .begin .ensures),
     )
 
@@ -101,11 +101,11 @@ steps-again-2 c =
     let c9 = c6 .before .before .before in
     let a = c9 .before .before .before .before .before .before .before .before .before .args in (
       omega (arith, c9 .before .if1 .left),
-      lowest-next (firesAt (now (a .f)) (now (a .table)) (a .c) (a .event .values)) (c9 .before .before .steps .next) (c9 .before .if1 .left)
-          (fires-failed (now (a .f)) (now (a .table)) (a .c) (a .event .values) (c9 .before .before .steps .next) (c9 .step-offset .result)
+      lowest-next (firesAt (now (a .f)) (now (a .table)) (a .c) (a .fresh) (a .event .values)) (c9 .before .before .steps .next) (c9 .before .if1 .left)
+          (fires-failed (now (a .f)) (now (a .table)) (a .c) (a .fresh) (a .event .values) (c9 .before .before .steps .next) (c9 .step-offset .result)
           (c9 .step-offset .ensures) (sym (c6 .before .before .is-step .ensures) ∙ not-false _ (c6 .before .if2 .left)) (c6 .begin .result)
           (c .before .before .clause .result) (c6 .begin .ensures)
-          (walking-more (now (a .f)) (a .c .values) (replicate 8 false) (a .event .values) (c6 .begin .result) (c3 .before .before .loop .w)
+          (walking-more (now (a .f)) (a .c .values) (a .fresh) (replicate 8 false) (a .event .values) (c6 .begin .result) (c3 .before .before .loop .w)
           (c .before .before .clause .result) (c3 .before .before .loop .inv .0) (sym (c3 .before .is-clause .ensures) ∙ c3 .if3 .taken)
           (c .before .before .clause .ensures))
           (not-true _ (c .if4 .taken)))
@@ -118,7 +118,7 @@ loop-less c =
     let c3 = c3 in
     let c6 = c3 .before .before .before in
     let a = c6 .before .before .before .before .before .before .before .before .before .before .before .before .args in
-    walking-less (now (a .f)) (a .c .values) (replicate 8 false) (a .event .values) (c6 .begin .result) (c3 .before .before .loop .w)
+    walking-less (now (a .f)) (a .c .values) (a .fresh) (replicate 8 false) (a .event .values) (c6 .begin .result) (c3 .before .before .loop .w)
     (c .before .before .clause .result) (sym (c3 .before .is-clause .ensures) ∙ c3 .if3 .taken) (c .before .before .clause .ensures)
 
 loop-again : tie.Need-loop-again Inv-loop μ-loop Inv-steps μ-steps
@@ -127,7 +127,7 @@ loop-again c =
     let c3 = c3 in
     let c6 = c3 .before .before .before in
     let a = c6 .before .before .before .before .before .before .before .before .before .before .before .before .args in (
-      walking-more (now (a .f)) (a .c .values) (replicate 8 false) (a .event .values) (c6 .begin .result) (c3 .before .before .loop .w)
+      walking-more (now (a .f)) (a .c .values) (a .fresh) (replicate 8 false) (a .event .values) (c6 .begin .result) (c3 .before .before .loop .w)
           (c .before .before .clause .result) (c3 .before .before .loop .inv .0) (sym (c3 .before .is-clause .ensures) ∙ c3 .if3 .taken)
           (c .before .before .clause .ensures),
       not-false _ (c .if4 .left),
@@ -138,49 +138,47 @@ guard-holds-requires c κs = search needs
 
 steps-less-3 : tie.Need-steps-less-3 Inv-loop μ-loop Inv-steps μ-steps
 steps-less-3 c =
-    let c10 = c .before .before .before .before .before .before .before .before .before .before in
-    omega (arith, c10 .if1 .left)
+    let c11 = c .before .before .before .before .before .before .before .before .before .before .before in
+    omega (arith, c11 .if1 .left)
 
 steps-again-3 : tie.Need-steps-again-3 Inv-loop μ-loop Inv-steps μ-steps
 steps-again-3 c =
-    let c3 = c .before .before .before in
-    let c3 = c3 in
-    let c6 = c3 .before .before .before in
-    let c9 = c6 .before .before .before in
-    let c12 = c9 .before .before .before in
-    let a = c12 .before .before .before .before .before .before .args in (
-      omega (arith, c9 .before .if1 .left),
-      lowest-next (firesAt (now (a .f)) (now (a .table)) (a .c) (a .event .values)) (c9 .before .before .steps .next) (c9 .before .if1 .left)
-          (fires-guard (now (a .f)) (now (a .table)) (a .c) (a .event .values) (c9 .before .before .steps .next) (c9 .step-offset .result)
-          (c9 .step-offset .ensures) (sym (c6 .before .before .is-step .ensures) ∙ not-false _ (c6 .before .if2 .left)) (c6 .begin .result)
-          (c3 .before .before .loop .w) (c6 .begin .ensures) (c3 .before .before .loop .inv .0) (c12 .raise .result) false
-          (c .before .guard-holds .result) (c12 .raise .ensures) (sym (c3 .before .is-clause .ensures) ∙ c3 .if3 .left) (c3 .before .before .loop .inv .1)
+    let c4 = c .before .before .before .before in
+    let c7 = c4 .before .before .before in
+    let c10 = c7 .before .before .before in
+    let c13 = c10 .before .before .before in
+    let a = c13 .before .before .before .before .before .before .args in (
+      omega (arith, c10 .before .if1 .left),
+      lowest-next (firesAt (now (a .f)) (now (a .table)) (a .c) (a .fresh) (a .event .values)) (c10 .before .before .steps .next) (c10 .before .if1 .left)
+          (fires-guard (now (a .f)) (now (a .table)) (a .c) (a .fresh) (a .event .values) (c10 .before .before .steps .next) (c10 .step-offset .result)
+          (c10 .step-offset .ensures) (sym (c7 .before .before .is-step .ensures) ∙ not-false _ (c7 .before .if2 .left)) (c7 .begin .result)
+          (c4 .before .before .loop .w) (c7 .begin .ensures) (c4 .before .before .loop .inv .0) (c13 .raise .result) false
+          (c .before .guard-holds .result) (c13 .raise .ensures) (sym (c4 .before .is-clause .ensures) ∙ c4 .if3 .left) (c4 .before .before .loop .inv .1)
           (c .before .guard-holds .ensures) (c .if5 .left))
-          (c9 .before .before .steps .inv .1),
+          (c10 .before .before .steps .inv .1),
     )
 
 returns : tie.Need-returns Inv-loop μ-loop Inv-steps μ-steps
 returns c =
     let c8 = c .before .before .before .before .before .before .before .before in
     let a = c8 .args in
-    lowest-last (firesAt (now (a .f)) (now (a .table)) (a .c) (a .event .values)) (c .before .steps .next) (c .if1 .taken) (c .before .steps .inv .0)
+    lowest-last (firesAt (now (a .f)) (now (a .table)) (a .c) (a .fresh) (a .event .values)) (c .before .steps .next) (c .if1 .taken) (c .before .steps .inv .0)
     (c .before .steps .inv .1)
 
 returns-2 : tie.Need-returns-2 Inv-loop μ-loop Inv-steps μ-steps
 returns-2 c =
-    let c3 = c .before .before .before in
-    let c3 = c3 in
-    let c6 = c3 .before .before .before in
-    let c9 = c6 .before .before .before in
-    let c12 = c9 .before .before .before in
-    let a = c12 .before .before .before .before .before .before .args in
-    lowest-here (firesAt (now (a .f)) (now (a .table)) (a .c) (a .event .values)) (c9 .before .before .steps .next) (c9 .before .if1 .left)
-    (fires-guard (now (a .f)) (now (a .table)) (a .c) (a .event .values) (c9 .before .before .steps .next) (c9 .step-offset .result)
-    (c9 .step-offset .ensures) (sym (c6 .before .before .is-step .ensures) ∙ not-false _ (c6 .before .if2 .left)) (c6 .begin .result)
-    (c3 .before .before .loop .w) (c6 .begin .ensures) (c3 .before .before .loop .inv .0) (c12 .raise .result) true (c .before .guard-holds .result)
-    (c12 .raise .ensures) (sym (c3 .before .is-clause .ensures) ∙ c3 .if3 .left) (c3 .before .before .loop .inv .1) (c .before .guard-holds .ensures)
+    let c4 = c .before .before .before .before in
+    let c7 = c4 .before .before .before in
+    let c10 = c7 .before .before .before in
+    let c13 = c10 .before .before .before in
+    let a = c13 .before .before .before .before .before .before .args in
+    lowest-here (firesAt (now (a .f)) (now (a .table)) (a .c) (a .fresh) (a .event .values)) (c10 .before .before .steps .next) (c10 .before .if1 .left)
+    (fires-guard (now (a .f)) (now (a .table)) (a .c) (a .fresh) (a .event .values) (c10 .before .before .steps .next) (c10 .step-offset .result)
+    (c10 .step-offset .ensures) (sym (c7 .before .before .is-step .ensures) ∙ not-false _ (c7 .before .if2 .left)) (c7 .begin .result)
+    (c4 .before .before .loop .w) (c7 .begin .ensures) (c4 .before .before .loop .inv .0) (c13 .raise .result) true (c .before .guard-holds .result)
+    (c13 .raise .ensures) (sym (c4 .before .is-clause .ensures) ∙ c4 .if3 .left) (c4 .before .before .loop .inv .1) (c .before .guard-holds .ensures)
     (c .if5 .taken))
-    (c9 .before .before .steps .inv .1)
+    (c10 .before .before .steps .inv .1)
 
 pub lowest-spec : {M : Type 1} → statement M
 lowest-spec =

@@ -34,7 +34,7 @@ returns c =
     let kinds = a .rules .kinds in
     let e : c .is-final .result ≡ leb 2 (getD kinds (getD f (at + 1) 0) 0) = c .is-final .ensures
     ∙ ap (λ i. leb 2 (getD kinds i 0)) (c .before .byte-at .ensures .0 ∙ ap (λ i. getD f (i + 1) 0) (c3 .step-offset .ensures)) in
-    λ g fm m s h t i w d q.
+    λ g fm l places m s h t i w d q.
     let x : leb 2 (getD kinds (getD f (at + 1) 0) 0) ≡ final fm d = rw i at (target-final g fm f (now (a .table)) (a .rules) m s t w (a .k) h d q) in
     sym (e ∙ x)
 
@@ -43,7 +43,7 @@ returns-2 c =
     let c4 = c .before .before .before .before in
     let a = c4 .args in
     let f = now (a .f) in
-    λ g fm m s h t i w d q.
+    λ g fm l places m s h t i w d q.
     let at : offsetOf (now (a .table)) (a .state) (a .k) < length f = rw i at (target-inside g fm f (now (a .table)) (a .rules) m s t w (a .k) h d q) in
     absurd (omega (arith, at, c .before .step-offset .ensures, c .if1 .left))
 

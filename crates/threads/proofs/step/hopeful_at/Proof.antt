@@ -1,13 +1,8 @@
 -- `threads::hopeful_at` meets its contract: where the scene stands, the code's answer is the machine's.
 use Rattle.machine_code.specs.inner.Bytes.{expiresAt, aliveBelow}
 use Rattle.base.proofs.Lists.{rest-drop}
-use mathlib.Core.List.{List}
-use mathlib.Core.Bool.{Bool}
-use Prim.Native.Nat.{ℕ}
 use native.Mathlib.Omega.{arith}
-use mathlib.Core.Path.{ap, ap₂, sym, _∙_}
-use lib.ListN.{drop}
-use Rattle.event_log.specs.declared.Latest.{Latest}
+use mathlib.Core.Path.{ap, _∙_}
 use denote.Ref.{now}
 use Rattle.threads.proofs.Tables.{hopeful-here}
 use borrow.Author.Needs.{needs}
@@ -15,7 +10,10 @@ use Rattle.threads.proofs.step.hopeful_at.Statement.{statement}
 use Rattle.threads.proofs.step.hopeful_at.Tie as tie
 
 returns : tie.Need-returns
-returns c = λ rules m p q g fm s h. absurd (omega (arith, s .offsets .sized, c .if1 .taken))
+returns c = λ g fm s h. absurd (omega (arith, s .offsets .sized, c .if1 .taken))
+
+fresh-at-requires : tie.Need-fresh-at-requires
+fresh-at-requires c κs = search needs
 
 sub-hopeful : tie.Need-sub-hopeful
 sub-hopeful c = search needs
@@ -31,20 +29,21 @@ hopeful-requires c κs = search needs
 
 returns-2 : tie.Need-returns-2
 returns-2 c =
-    let c6 = c .before .before .before .before .before .before in
-    let a = c6 .args in
+    let a = c .before .before .before .before .before .before .before .before .before .before .before .before .args in
     let f = now (a .f) in
     let steps = now (a .table) in
-    let alive : List ℕ → List Bool → Latest → Bool = λ x y z. aliveBelow (expiresAt f x (a .t .config) y (z .values)) 8 in
-    λ rules m p q g fm s h.
-    c .hopeful .ensures ∙ ap (λ x. alive x (a .rises) (a .latest)) (rest-drop steps 128)
-    ∙ ap₂ (alive (drop 128 steps)) (sym p) (sym q) ∙ hopeful-here g fm f steps rules m s (a .t) h
+    let n = c .before .before .fresh-at in
+    λ g fm s h.
+    c .hopeful .ensures
+    ∙ ap (λ x. aliveBelow (expiresAt f x (a .t .config) (n .result) (a .rules .rises) (a .moment .latest .values)) 8) (rest-drop steps 128)
+    ∙ hopeful-here g fm f steps (a .rules) (a .moment) s (a .t) h (n .result) (n .ensures g fm (a .moment) s h)
 
 pub hopeful-at-spec : {M : Type 1} → statement M
 hopeful-at-spec =
     tie.close
     (tie.spec
     returns
+    fresh-at-requires
     sub-hopeful
     part-hopeful-start
     part-hopeful-end

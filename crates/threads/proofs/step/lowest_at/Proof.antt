@@ -2,8 +2,9 @@
 use native.Mathlib.Omega.{arith}
 use mathlib.Core.Path.{_≡_, sym, subst}
 use denote.Ref.{now}
+use Rattle.threads.specs.inner.Setting.{conf}
 use Rattle.threads.specs.inner.Calls.{Lowest}
-use Rattle.machine_code.specs.inner.Bytes.{configOf, firesAt, lowestOf}
+use Rattle.machine_code.specs.inner.Bytes.{firesAt, lowestOf}
 use Rattle.machine_code.proofs.SameMachine.{lowest-means}
 use Rattle.threads.proofs.Choices.{lowest-found}
 use Rattle.threads.proofs.Tables.{lowest-here}
@@ -11,27 +12,31 @@ use borrow.Author.Needs.{needs}
 use Rattle.threads.proofs.step.lowest_at.Statement.{statement}
 use Rattle.threads.proofs.step.lowest_at.Tie as tie
 
+fresh-at-requires : tie.Need-fresh-at-requires
+fresh-at-requires c κs = search needs
+
 lowest-requires : tie.Need-lowest-requires
 lowest-requires c κs = search needs
 
 cast-result : tie.Need-cast-result
 cast-result c =
-    let c5 = c .before .before .before .before .before in
-    let a = c5 .args in
-    omega (arith, c .lowest .ensures, lowest-means (firesAt (now (a .f)) (now (a .table)) (a .t .config) (a .moment .event .values)) .most)
+    let a = c .before .before .before .before .before .before .before .before .before .args in
+    let p = firesAt (now (a .f)) (now (a .table)) (a .t .config) (c .before .fresh-at .result) (a .moment .event .values) in
+    omega (arith, c .lowest .ensures, lowest-means p .most)
 
 returns : tie.Need-returns
 returns c =
-    let c5 = c .before .before .before .before .before in
-    let a = c5 .args in
-    let p = firesAt (now (a .f)) (now (a .table)) (a .t .config) (a .moment .event .values) in
+    let a = c .before .before .before .before .before .before .before .before .before .args in
+    let x = c .before .fresh-at in
+    let p = firesAt (now (a .f)) (now (a .table)) (a .t .config) (x .result) (a .moment .event .values) in
     let e : c .lowest .result ≡ lowestOf p = c .lowest .ensures in (
       omega (arith, lowest-means p .most),
-      λ g fm rules s h.
+      λ g fm s h.
           let n = a .moment .number in
-          subst (Lowest g fm (configOf (a .t .config)) n) (sym e)
-          (lowest-found g fm (a .t) n (lowestOf p) (lowest-here g fm (now (a .f)) (now (a .table)) rules (a .moment) s (a .t) h)),
+          subst (Lowest g fm (conf g fm (a .t)) n) (sym e)
+          (lowest-found g fm (a .t) n (lowestOf p)
+          (lowest-here g fm (now (a .f)) (now (a .table)) (a .rules) (a .moment) s (a .t) h (x .result) (x .ensures g fm (a .moment) s h))),
     )
 
 pub lowest-at-spec : {M : Type 1} → statement M
-lowest-at-spec = tie.close (tie.spec lowest-requires cast-result returns)
+lowest-at-spec = tie.close (tie.spec fresh-at-requires lowest-requires cast-result returns)

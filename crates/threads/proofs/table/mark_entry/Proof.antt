@@ -35,8 +35,8 @@ mul-unless c = search needs
 
 slice-read-unless : tie.Need-slice-read-unless
 slice-read-unless c =
-    let s = c .before .before .before .before .before .before .before .before .before .before .before in
-    omega (arith, length-set (now (s .args .table)) (s .args .i) 0, s .pre)
+    let c11 = c .before .before .before .before .before .before .before .before .before .before .before in
+    omega (arith, length-set (now (c11 .args .table)) (c11 .args .i) 0, c11 .pre)
 
 unless-requires : tie.Need-unless-requires
 unless-requires c κs = search needs
@@ -49,34 +49,37 @@ mul-table-2 c = search needs
 
 slice-write-table-2 : tie.Need-slice-write-table-2
 slice-write-table-2 c =
-    let s = c .before .before .before .before .before .before .before .before .before .before .before .before in
-    omega (arith, length-set (now (s .args .table)) (s .args .i) 0, s .pre)
+    let c12 = c .before .before .before .before .before .before .before .before .before .before .before .before in
+    omega (arith, length-set (now (c12 .args .table)) (c12 .args .i) 0, c12 .pre)
 
 same-length : tie.Need-same-length
 same-length c = search needs
 
 returns : tie.Need-returns
 returns c =
-    let s = c .before .before .before .before .before .before .before .before .before .before .before .before in
-    let a = s .args in
+    let c3 = c .before .before .before in
+    let c4 = c3 .before in
+    let c5 = c4 .before in
+    let c12 = c5 .before .before .before .before .before .before .before in
+    let a = c12 .args in
     let f = now (a .f) in
     let steps = now (a .steps) in
     let rises = now (a .rises) in
     let t = now (a .table) in
     let u = set t (a .i) 0 in
     let y = c .unless in
-    let at = c .before .before .before .before .before .entry .ensures in
-    let told = c .before .before .before .before .barred .ensures (λ z. omega (arith, z, c .before .before .before .if1 .taken)) in
+    let at = c5 .entry .ensures in
+    let told = c4 .barred .ensures (λ z. omega (arith, z, c3 .if1 .taken)) in
     let late = c .before .before .due in (
       length-set u (128 + a .i) (y .result) ∙ length-set t (a .i) 0,
       λ m p q e.
-          let one = barred-more f steps rises m t (a .i) (s .pre .1) e true
-          (λ b d. subst (λ v. (fired f (getD steps (a .i) 0) d v) .fires ≡ false) (sym p)
-          (subst (λ i. (fired f i d (now (a .event))) .fires ≡ false) at (told .0 d))) in
+          let one = barred-more f steps rises m t (a .i) (c12 .pre .1) e true
+          (λ b n d. subst (λ v. (fired f (getD steps (a .i) 0) d n v) .fires ≡ false) (sym p)
+          (subst (λ i. (fired f i d n (now (a .event))) .fires ≡ false) at (told .0 n d))) in
           subst (λ z. EventTable f steps rises m (set u (128 + a .i) z)) (sym (y .ensures))
-          (due-more f steps rises m u (a .i) (s .pre .1) one (late .result)
-          (λ b d. subst (λ v. lapsed f (getD steps (a .i) 0) d rises v ≡ true) (sym q)
-          (subst (λ i. lapsed f i d rises (now (a .latest)) ≡ true) at (late .ensures b _ (told .1) d)))),
+          (due-more f steps rises m u (a .i) (c12 .pre .1) one (late .result)
+          (λ b n d. subst (λ v. lapsed f (getD steps (a .i) 0) d n rises v ≡ true) (sym q)
+          (subst (λ i. lapsed f i d n rises (now (a .latest)) ≡ true) at (late .ensures b _ (told .1) n d)))),
     )
 
 returns-2 : tie.Need-returns-2

@@ -17,10 +17,14 @@ loop-holds : tie.Need-loop-holds Inv-loop μ-loop
 loop-holds c = (omega arith, (refl, λ m p q e. e))
 
 mul-mark-entry : tie.Need-mul-mark-entry Inv-loop μ-loop
-mul-mark-entry c = omega (arith, c .before .before .before .before .before .before .before .before .before .before .pre)
+mul-mark-entry c =
+    let c10 = c .before .before .before .before .before .before .before .before .before .before in
+    omega (arith, c10 .pre)
 
 add-mark-entry : tie.Need-add-mark-entry Inv-loop μ-loop
-add-mark-entry c = omega (arith, c .before .before .before .before .before .before .before .before .before .before .pre, c .before .loop-test .taken)
+add-mark-entry c =
+    let c10 = c .before .before .before .before .before .before .before .before .before .before in
+    omega (arith, c10 .pre, c .before .loop-test .taken)
 
 slice-aggregate-mark-entry : tie.Need-slice-aggregate-mark-entry Inv-loop μ-loop
 slice-aggregate-mark-entry c = search needs
@@ -33,8 +37,11 @@ slice-aggregate-mark-entry-3 c = search needs
 
 mark-entry-requires : tie.Need-mark-entry-requires Inv-loop μ-loop
 mark-entry-requires c κs =
-    let p = c .before .before .before .before .before .before .before .before .before .before .before .before .before .pre in
-    (omega (arith, p, c .before .before .before .before .before .loop .inv .1 .0), omega (arith, p, c .before .before .before .before .loop-test .taken))
+    let c4 = c .before .before .before .before in
+    let c5 = c4 .before in
+    let c13 = c5 .before .before .before .before .before .before .before .before in
+    let p = c13 .pre in
+    (omega (arith, p, c5 .loop .inv .1 .0), omega (arith, p, c4 .loop-test .taken))
 
 add-k : tie.Need-add-k Inv-loop μ-loop
 add-k c = omega arith
@@ -44,7 +51,8 @@ loop-less c = omega arith
 
 loop-again : tie.Need-loop-again Inv-loop μ-loop
 loop-again c =
-    let i = c .before .before .before .before .before .before .before .before .loop .inv .1 in
+    let c8 = c .before .before .before .before .before .before .before .before in
+    let i = c8 .loop .inv .1 in
     let more = c .before .before .mark-entry .ensures in
     (omega arith, (more .0 ∙ i .0, λ m p q e. more .1 m p q (i .1 m p q e)))
 
@@ -53,8 +61,9 @@ same-length c = c .before .loop .inv .1 .0
 
 returns : tie.Need-returns Inv-loop μ-loop
 returns c =
+    let c9 = c .before .before .before .before .before .before .before .before .before in
     let i = c .before .loop .inv .1 in
-    let a = c .before .before .before .before .before .before .before .before .before .args in
+    let a = c9 .args in
     (i .0, i .1 (a .moment) refl refl)
 
 pub mark-state-spec : {M : Type 1} → statement M

@@ -1,0 +1,2 @@
+-- Definitions of lists as words, and of reading them back.
+pub mod inner
