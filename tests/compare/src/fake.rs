@@ -1,13 +1,16 @@
 //! Stands in for the product's static library: the same functions, made of the
 //! reference. A fault may be switched on, to see that the comparison shows it.
 
+mod lists;
+
 use crate::checks::found_of;
 use crate::product::{Found, LogRead, Refused, ACCEPT, NONE, REJECT};
 use reference::analysis;
 use reference::formula;
 use reference::log::Log;
 use reference::machine::Setting;
-use reference::refusal::{Refusal, CALL, CROWDED, OUTSIDE, SHORT, UNBOUND, VALUE};
+use reference::refusal::{Refusal, CALL, CROWDED, FOREIGN, OUTSIDE, SHORT, SURPLUS};
+use reference::refusal::{TWICE, UNBOUND, VALUE};
 use reference::runs::threads;
 use reference::search::{self, Answer, SEAT_WORDS};
 use std::sync::atomic::{AtomicUsize, Ordering};
@@ -57,10 +60,32 @@ pub enum Fault {
     RowMask,
     NoneRowUntouched,
     FirstRowCopied,
+    ListsIgnored,
+    ListsAsSets,
+    ListsUnordered,
+    ListsByTallies,
+    ListsByEnds,
+    LastListLost,
+    SumWraps,
+    SumBoth,
+    PlainSumRises,
+    SumOfNoneNeither,
+    AnyGatherCounts,
+    DifferentBoth,
+    DifferentRises,
+    DifferentNeither,
+    GuardBeforeGather,
+    ExpiryWithoutGather,
+    TwiceAccepted,
+    TwiceAfterValue,
+    TwiceAsValue,
+    NinthGather,
+    GatherAnywhere,
+    ListAsVariable,
 }
 
 impl Fault {
-    pub const ALL: [Fault; 41] = [
+    pub const ALL: [Fault; 63] = [
         Fault::LogPlace,
         Fault::LogFile,
         Fault::LogFields,
@@ -102,6 +127,28 @@ impl Fault {
         Fault::RowMask,
         Fault::NoneRowUntouched,
         Fault::FirstRowCopied,
+        Fault::ListsIgnored,
+        Fault::ListsAsSets,
+        Fault::ListsUnordered,
+        Fault::ListsByTallies,
+        Fault::ListsByEnds,
+        Fault::LastListLost,
+        Fault::SumWraps,
+        Fault::SumBoth,
+        Fault::PlainSumRises,
+        Fault::SumOfNoneNeither,
+        Fault::AnyGatherCounts,
+        Fault::DifferentBoth,
+        Fault::DifferentRises,
+        Fault::DifferentNeither,
+        Fault::GuardBeforeGather,
+        Fault::ExpiryWithoutGather,
+        Fault::TwiceAccepted,
+        Fault::TwiceAfterValue,
+        Fault::TwiceAsValue,
+        Fault::NinthGather,
+        Fault::GatherAnywhere,
+        Fault::ListAsVariable,
     ];
 }
 
@@ -167,10 +214,38 @@ unsafe extern "C" fn hikwallu_read_formula(
     if has(Fault::FormulaNumber) && refusal.number == UNBOUND {
         answer.number = VALUE as usize;
     }
-    match has(Fault::FormulaAccepted) {
+    if has(Fault::TwiceAsValue) && refusal.number == TWICE {
+        answer.number = VALUE as usize;
+    }
+    match has(Fault::FormulaAccepted) || is_passed(&refusal, formula, fields) {
         true => Refused::default(),
+        false if is_late(&refusal, formula, fields) => Refused {
+            number: VALUE as usize,
+            ..answer
+        },
         false => answer,
     }
+}
+
+/// Does a fault pass the command that is refused?
+fn is_passed(refusal: &Refusal, formula: &[u8], fields: usize) -> bool {
+    let command = formula.get(refusal.place..).unwrap_or_default();
+    match (refusal.number, command) {
+        (TWICE, _) => has(Fault::TwiceAccepted),
+        (SURPLUS, [0x17, ..]) => has(Fault::NinthGather),
+        (FOREIGN, [0x17, ..]) => has(Fault::GatherAnywhere),
+        (VALUE, [0x14, field, 8..=11, ..]) => {
+            has(Fault::ListAsVariable) && usize::from(*field) < fields
+        }
+        _ => false,
+    }
+}
+
+/// Is a field that does not exist told before the second GATHER?
+fn is_late(refusal: &Refusal, formula: &[u8], fields: usize) -> bool {
+    let absent = |field: &u8| usize::from(*field) >= fields;
+    let twice = refusal.number == TWICE && has(Fault::TwiceAfterValue);
+    twice && formula.get(refusal.place + 1).is_some_and(absent)
 }
 
 /// The words that count, with the faults of counting seats.
@@ -179,6 +254,20 @@ fn counted(words: usize) -> usize {
         true if words >= SEAT_WORDS => words.div_ceil(SEAT_WORDS) * SEAT_WORDS,
         _ => words,
     }
+}
+
+/// The reference's search, with the stand-in's own lists.
+fn own(log: &[u8], formula: &[u8], start: usize, words: usize) -> Result<Answer, Refusal> {
+    let (log, formula) = search::read_both(log, formula)?;
+    if start >= log.events() {
+        return Err(Refusal::new(CALL, OUTSIDE, start));
+    }
+    let seats = search::seats(words)?;
+    let setting = Setting {
+        log: &log,
+        formula: &formula,
+    };
+    search::answer(&setting, &lists::search(&setting, start, seats))
 }
 
 /// A search in which more than 64 seats count.
@@ -193,7 +282,7 @@ fn uncapped(log: &[u8], formula: &[u8], start: usize, words: usize) -> Result<An
 }
 
 fn searched(log: &[u8], formula: &[u8], start: usize, words: usize) -> Result<Answer, Refusal> {
-    let answer = search::search(log, formula, start, counted(words));
+    let answer = own(log, formula, start, counted(words));
     let Err(refusal) = answer else {
         return answer;
     };

@@ -22,8 +22,8 @@ impl Pair {
     }
 }
 
-/// The bench's log with both its formulas, its events exchanged, and its log
-/// of three events, tied and not.
+/// The bench's log with both its formulas, its events exchanged, its log of
+/// three events, tied and not, and a formula that gathers.
 pub fn examples() -> Vec<Pair> {
     let log = "0101 0100 02000001F400000001 02000001F400000002 00";
     let exchanged = "0101 0100 02000001F400000002 02000001F400000001 00";
@@ -31,12 +31,15 @@ pub fn examples() -> Vec<Pair> {
     let opens = "1000 1101 12010000000001 140000 1000 1102 12010000000002 1002 00";
     let tied = "1600 1000 1101 12010000000001 140000 1000 1102 12010000000002 1002 00";
     let trips = "1000 1101 12010000000002 140000 1000 1102 13000000 12010000000001 1002 00";
+    let gathers =
+        "1000 1101 170008 17010B 1000 1102 170008 15 29 25 2E0B 2D08 25 20000001F4 2C08 1002 00";
     let pairs = [
         (log, opens),
         (log, trips),
         (exchanged, trips),
         (three, opens),
         (three, tied),
+        (log, gathers),
     ];
     let pair = |(log, formula)| Pair {
         log: hex(log),
@@ -51,7 +54,8 @@ fn every_expression() -> Vec<u8> {
     let early = op(AT_MOST, &[since, op(ADD, &[count(0), constant(8)])]);
     let few = op(LESS, &[count(1), constant(3)]);
     let same = op(NOT, &[op(EQUAL, &[var(2), constant(9)])]);
-    let either = op(OR, &[constant(0), few.clone()]);
+    let long = op(LESS, &[op(ADD, &[length(8), different(11)]), sum(9)]);
+    let either = op(OR, &[long, few.clone()]);
     op(IF, &[few, op(AND, &[early, same]), either])
 }
 
@@ -70,9 +74,12 @@ pub fn everything() -> Pair {
         join(&[state(0), step(1), test(1, 4, 1), bind(0, 0), bind(1, 2)]),
         join(&[step(2), test(1, 5, 2), bind(0, 0), bind(1, 2)]),
         join(&[state(0), step(1), testv(0, 3, 0), bind(0, 1)]),
+        join(&[gather(2, 8), gather(0, 9), gather(1, 11)]),
         guard(every_expression()),
         join(&[step(2), test(2, 2, 12), testv(1, 1, 2)]),
         join(&[state(1), step(3), test(1, 0, 3), testv(2, 5, 0)]),
+        join(&[step(4), test(1, 3, 1), gather(1, 10), bind(2, 3)]),
+        guard(op(NOT, &[different(10)])),
         join(&[step(4), test(1, 3, 1), bind(2, 3)]),
         join(&[state(2), state(3)]),
     ]);

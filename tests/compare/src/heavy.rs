@@ -20,10 +20,13 @@ pub enum Kind {
     Still,
     /// All 64 seats are taken from event 63 on; no step of theirs ever fires.
     Full,
+    /// All 64 seats are taken from event 36 on, 56 of them by configurations
+    /// that differ in the order of their lists alone; no step ever fires.
+    Gather,
 }
 
 impl Kind {
-    pub const ALL: [Kind; 7] = [
+    pub const ALL: [Kind; 8] = [
         Kind::Ordinary,
         Kind::Guards,
         Kind::Committed,
@@ -31,6 +34,7 @@ impl Kind {
         Kind::Quiet,
         Kind::Still,
         Kind::Full,
+        Kind::Gather,
     ];
 
     pub fn name(self) -> &'static str {
@@ -42,6 +46,7 @@ impl Kind {
             Kind::Quiet => "quiet",
             Kind::Still => "still",
             Kind::Full => "full",
+            Kind::Gather => "gather",
         }
     }
 
@@ -76,6 +81,7 @@ pub fn pair(kind: Kind, events: usize) -> Pair {
         Kind::Quiet => quiet(),
         Kind::Still => still(),
         Kind::Full => full(),
+        Kind::Gather => gathering(),
     };
     Pair {
         log: log_of(events as u32, period as u32),
@@ -249,4 +255,86 @@ fn full() -> Vec<Vec<u8>> {
     let ends = times(7, join(&[step(ACCEPT_STATE), open.clone()]));
     let waiting = join(&[state(0), ends, step(3), open]);
     vec![first(bind(TIME, 7)), source, waiting, rest(3, 0)]
+}
+
+/// Rounds of each of the two loops that gather the same for all.
+const ROUNDS: u32 = 12;
+
+/// Gathers the time or what is 10 later into each of three lists, as the bits
+/// of `choice` say, and one more into the fourth.
+fn gathers(choice: u8) -> Vec<u8> {
+    let field = |bit: u8| choice >> bit & 1;
+    join(&[
+        gather(field(0), 8),
+        gather(field(1), 9),
+        gather(field(2), 10),
+        gather(3, 11),
+    ])
+}
+
+/// A loop of so many rounds, the last of which leads on.
+fn rounds(own: u8) -> Vec<u8> {
+    let again = guard(op(LESS, &[count(own), constant(ROUNDS)]));
+    let others = times(6, hopeless(REJECT_STATE));
+    let round = join(&[step(own), gathers(0), again]);
+    join(&[state(1), others, round, step(own + 1), gathers(0)])
+}
+
+/// On the event of this time one thread becomes as many as there are choices;
+/// on the next each takes the choice that makes up for it, so that all sums
+/// are again one number.
+fn branches(own: u8, time: u32, choices: u8, sum_after: u32) -> Vec<u8> {
+    let mut parts = vec![state(0), times(8 - usize::from(choices), hopeless(own))];
+    for choice in 0..choices {
+        let now = test(TIME, LESS_THAN, time + 1);
+        parts.push(join(&[step(own + 1), now, gathers(choice)]));
+    }
+    parts.push(state(1));
+    let is_even = |list: u8| op(EQUAL, &[sum(list), constant(sum_after)]);
+    let all = op(AND, &[op(AND, &[is_even(8), is_even(9)]), is_even(10)]);
+    for choice in 0..8 {
+        parts.push(join(&[step(own + 2), gathers(choice), guard(all.clone())]));
+    }
+    join(&parts)
+}
+
+/// 31 commands over the lists that come to 0.
+fn long_zero_of_lists() -> Vec<u8> {
+    let pair = |code: u8, list: u8| op(code, &[sum(list), length(list)]);
+    let four = |one: u8, two: u8, list: u8| op(AND, &[pair(one, list), pair(two, list)]);
+    let low = op(OR, &[four(ADD, SUB, 8), four(SUB, ADD, 9)]);
+    let never = op(LESS, &[different(11), constant(0)]);
+    let high = op(
+        AND,
+        &[four(AT_MOST, LESS, 10), op(AND, &[never, pair(LESS, 8)])],
+    );
+    op(AND, &[low, high])
+}
+
+/// 56 threads with lists of 28 values, equal in sums and lengths; beside them a
+/// source and seven threads that it starts. Each of the 63 tries eight steps of
+/// eight tests and gathers and a guard of 31 commands on every event.
+fn gathering() -> Vec<Vec<u8>> {
+    let others = times(6, hopeless(REJECT_STATE));
+    let begin = join(&[state(0), others.clone(), step(1), step(8)]);
+    // The sum of the times 1 to 12, and of two events of which one is 10 later.
+    let first = ROUNDS * (ROUNDS + 1) / 2;
+    let two = |time: u32| time + time + 1 + 10;
+    let (one, other) = (ROUNDS + 1, ROUNDS + 3);
+    let open = join(&[seven(), gather(CODE, 8), guard(long_zero_of_lists())]);
+    let ends = times(7, join(&[step(ACCEPT_STATE), open.clone()]));
+    let waiting = join(&[state(0), ends, step(9), open]);
+    let window = join(&[test(TIME, AT_LEAST, 30), test(TIME, LESS_THAN, 37)]);
+    let start = join(&[step(7), window, gather(TIME, 8)]);
+    let source = join(&[state(0), others, vain(REJECT_STATE), start]);
+    vec![
+        begin,
+        rounds(1),
+        branches(2, one, 7, first + two(one)),
+        branches(4, other, 8, first + two(one) + two(other)),
+        rounds(6),
+        waiting,
+        source,
+        rest(9, 0),
+    ]
 }

@@ -2,6 +2,7 @@
 
 use compare::heavy::{pair, Kind};
 use reference::analysis::{analyse, ROW_WORDS};
+use reference::compose::test;
 use reference::search::{read_both, search, MOST_SEATS, SEAT_WORDS};
 
 const EVENTS: usize = 300;
@@ -34,6 +35,7 @@ fn seats_nearly_full_and_never_crowded() {
             Kind::Overlap | Kind::Quiet => 1,
             Kind::Still => 0,
             Kind::Full => 59,
+            Kind::Gather => 8,
         };
         assert!(found.width >= least, "{kind:?}: {}", found.width);
     }
@@ -41,7 +43,26 @@ fn seats_nearly_full_and_never_crowded() {
 
 #[test]
 fn all_seats_full() {
-    let pair = pair(Kind::Full, EVENTS);
-    let found = search(&pair.log, &pair.formula, 0, WORDS).expect("no refusal");
-    assert_eq!(found.width, MOST_SEATS);
+    for kind in [Kind::Full, Kind::Gather] {
+        let pair = pair(kind, EVENTS);
+        let found = search(&pair.log, &pair.formula, 0, WORDS).expect("no refusal");
+        assert_eq!(found.width, MOST_SEATS, "{kind:?}");
+    }
+}
+
+#[test]
+fn lists_alike_fill_the_seats() {
+    // One thread more than the source starts is one too many, so that all 64
+    // wait at the end too.
+    let mut pair = pair(Kind::Gather, 60);
+    let window = test(0, 2, 37);
+    let at = pair
+        .formula
+        .windows(window.len())
+        .position(|part| part == window);
+    let last = at.expect("the source's window") + window.len() - 1;
+    assert!(search(&pair.log, &pair.formula, 0, WORDS).is_ok());
+    pair.formula[last] += 1;
+    let refusal = search(&pair.log, &pair.formula, 0, WORDS).expect_err("crowded");
+    assert_eq!(refusal.triple(), (3, 11, 37));
 }

@@ -76,6 +76,11 @@ pub fn bind(field: u8, variable: u8) -> Vec<u8> {
     vec![0x14, field, variable]
 }
 
+/// The variable is 8 to 11.
+pub fn gather(field: u8, variable: u8) -> Vec<u8> {
+    vec![0x17, field, variable]
+}
+
 pub fn guard(expression: Vec<u8>) -> Vec<u8> {
     join(&[vec![0x15], expression])
 }
@@ -92,6 +97,20 @@ pub fn var(variable: u8) -> Vec<u8> {
 
 pub fn count(state: u8) -> Vec<u8> {
     vec![0x22, state]
+}
+
+/// The sum of a list, its variable 8 to 11.
+pub fn sum(variable: u8) -> Vec<u8> {
+    vec![0x2C, variable]
+}
+
+pub fn length(variable: u8) -> Vec<u8> {
+    vec![0x2D, variable]
+}
+
+/// The number of different values of a list.
+pub fn different(variable: u8) -> Vec<u8> {
+    vec![0x2E, variable]
 }
 
 /// An expression command with its operands.

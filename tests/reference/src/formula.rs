@@ -10,6 +10,9 @@ pub const MOST_STEPS: usize = 8;
 pub const MOST_PARTS: usize = 8;
 pub const MOST_TIED: usize = 8;
 pub const VARIABLES: usize = 8;
+/// The variables 8 to 11 are lists, numbered from 0 here.
+pub const LISTS: usize = 4;
+pub const FIRST_LIST: u8 = 8;
 pub const MOST_COMMANDS: usize = 31;
 pub const MOST_DEPTH: usize = 8;
 
@@ -46,6 +49,7 @@ pub struct Step {
     pub target: u8,
     pub tests: Vec<Test>,
     pub binds: Vec<Bind>,
+    pub gathers: Vec<Gather>,
     pub guard: Option<Expression>,
 }
 
@@ -68,6 +72,12 @@ pub enum Right {
 pub struct Bind {
     pub field: usize,
     pub variable: usize,
+}
+
+#[derive(Clone, Copy, Debug)]
+pub struct Gather {
+    pub field: usize,
+    pub list: usize,
 }
 
 #[derive(Clone, Copy, Debug, PartialEq, Eq)]
@@ -98,6 +108,9 @@ pub enum Expression {
     Const(u32),
     Var { place: usize, variable: usize },
     Count { place: usize, state: usize },
+    Sum(usize),
+    Length(usize),
+    Different(usize),
     Not(Box<Expression>),
     Two(Pair, Box<Expression>, Box<Expression>),
     If(Box<Expression>, Box<Expression>, Box<Expression>),

@@ -1,18 +1,39 @@
 //! Configurations, the value of an expression, firing, and hopeless steps.
 
 use crate::formula::{Expression, Formula, Kind, Operator, Pair, Right, State, Step, Test};
-use crate::formula::{MOST_STATES, VARIABLES};
+use crate::formula::{LISTS, MOST_STATES, VARIABLES};
 use crate::log::Log;
+use std::collections::BTreeSet;
+use std::rc::Rc;
 
 pub type Values = [Option<u32>; VARIABLES];
 pub type Counts = [u8; MOST_STATES];
 
-/// A state, the held variables with values, and a counter per state.
-#[derive(Clone, Copy, Debug, PartialEq, Eq, PartialOrd, Ord, Hash)]
+/// The values gathered into each list, in their order; `None` until something
+/// is gathered. They are shared, since most steps gather nothing.
+#[derive(Clone, Debug, Default, PartialEq, Eq, PartialOrd, Ord, Hash)]
+pub struct Lists(Option<Rc<[Vec<u32>; LISTS]>>);
+
+impl Lists {
+    pub const EMPTY: Lists = Lists(None);
+
+    pub fn of(&self, list: usize) -> &[u32] {
+        self.0.as_ref().map_or(&[], |lists| &lists[list])
+    }
+
+    pub fn add(&mut self, list: usize, value: u32) {
+        let lists = self.0.get_or_insert_with(Rc::default);
+        Rc::make_mut(lists)[list].push(value);
+    }
+}
+
+/// A state, the held variables with values, a counter per state, and the lists.
+#[derive(Clone, Debug, PartialEq, Eq, PartialOrd, Ord, Hash)]
 pub struct Config {
     pub state: u8,
     pub counts: Counts,
     pub held: Values,
+    pub lists: Lists,
 }
 
 impl Config {
@@ -20,6 +41,7 @@ impl Config {
         state: 0,
         counts: [0; MOST_STATES],
         held: [None; VARIABLES],
+        lists: Lists::EMPTY,
     };
 }
 
@@ -49,13 +71,24 @@ impl Trend {
     }
 }
 
-/// The value of an expression with the given variables and counters.
-pub fn value(part: &Expression, held: &Values, counts: &Counts) -> u32 {
-    let of = |operand: &Expression| value(operand, held, counts);
+/// The trends of what a guard may name: both for constants and counters.
+#[derive(Clone, Copy, Debug)]
+pub struct Trends {
+    pub variables: [Trend; VARIABLES],
+    pub sums: [Trend; LISTS],
+    pub different: [Trend; LISTS],
+}
+
+/// The value of an expression in the configuration that its step leaves.
+pub fn value(part: &Expression, config: &Config) -> u32 {
+    let of = |operand: &Expression| value(operand, config);
     match part {
         Expression::Const(constant) => *constant,
-        Expression::Var { variable, .. } => held[*variable].unwrap_or(0),
-        Expression::Count { state, .. } => u32::from(counts[*state]),
+        Expression::Var { variable, .. } => config.held[*variable].unwrap_or(0),
+        Expression::Count { state, .. } => u32::from(config.counts[*state]),
+        Expression::Sum(list) => sum(config.lists.of(*list)),
+        Expression::Length(list) => config.lists.of(*list).len() as u32,
+        Expression::Different(list) => different(config.lists.of(*list)),
         Expression::Not(inner) => u32::from(of(inner) == 0),
         Expression::If(condition, first, second) => match of(condition) {
             0 => of(second),
@@ -76,12 +109,25 @@ pub fn value(part: &Expression, held: &Values, counts: &Counts) -> u32 {
     }
 }
 
-/// The trend of an expression, given the trend of each variable.
-pub fn trend(part: &Expression, variables: &[Trend; VARIABLES]) -> Trend {
-    let of = |operand: &Expression| trend(operand, variables);
+/// The sum of a list, which stops at the largest value.
+fn sum(list: &[u32]) -> u32 {
+    list.iter()
+        .fold(0, |sum: u32, value| sum.saturating_add(*value))
+}
+
+/// The number of different values of a list.
+fn different(list: &[u32]) -> u32 {
+    list.iter().collect::<BTreeSet<_>>().len() as u32
+}
+
+/// The trend of an expression, given those of what it names.
+pub fn trend(part: &Expression, trends: &Trends) -> Trend {
+    let of = |operand: &Expression| trend(operand, trends);
     match part {
-        Expression::Const(_) | Expression::Count { .. } => Trend::BOTH,
-        Expression::Var { variable, .. } => variables[*variable],
+        Expression::Const(_) | Expression::Count { .. } | Expression::Length(_) => Trend::BOTH,
+        Expression::Var { variable, .. } => trends.variables[*variable],
+        Expression::Sum(list) => trends.sums[*list],
+        Expression::Different(list) => trends.different[*list],
         Expression::Not(inner) => of(inner).exchanged(),
         Expression::If(condition, first, second) => match of(condition) {
             Trend::BOTH => of(first).common(of(second)),
@@ -121,7 +167,7 @@ impl Setting<'_> {
         if !step.tests.iter().all(|test| holds(test, event, config)) {
             return None;
         }
-        let mut after = *config;
+        let mut after = config.clone();
         for bind in &step.binds {
             let fresh = event[bind.field];
             if after.held[bind.variable].is_some_and(|known| known != fresh) {
@@ -129,10 +175,11 @@ impl Setting<'_> {
             }
             after.held[bind.variable] = Some(fresh);
         }
+        gather(&mut after.lists, step, event);
         after.counts[usize::from(config.state)] += 1;
         after.state = step.target;
         match &step.guard {
-            Some(guard) if value(guard, &after.held, &after.counts) == 0 => None,
+            Some(guard) if value(guard, &after) == 0 => None,
             _ => Some(after),
         }
     }
@@ -152,29 +199,57 @@ impl Setting<'_> {
         let Some(guard) = &step.guard else {
             return false;
         };
-        let mut held = config.held;
-        let mut trends = held.map(|known| match known {
-            Some(_) => Trend::BOTH,
-            None => Trend::NEITHER,
-        });
+        let mut after = config.clone();
         for bind in &step.binds {
             // Only the first BIND of a variable that is not held counts.
-            if held[bind.variable].is_none() {
-                held[bind.variable] = Some(event[bind.field]);
-                if self.log.rising[bind.field] {
-                    trends[bind.variable] = Trend::RISING;
-                }
+            let held = &mut after.held[bind.variable];
+            *held = held.or(Some(event[bind.field]));
+        }
+        gather(&mut after.lists, step, event);
+        after.counts[usize::from(config.state)] += 1;
+        value(guard, &after) == 0 && trend(guard, &self.trends(config, step)).falling
+    }
+
+    /// The trends of what a step's guard names while the configuration waits.
+    fn trends(&self, config: &Config, step: &Step) -> Trends {
+        // What takes a field's value next rises if the field does.
+        let fresh = |field: usize| match self.log.rising[field] {
+            true => Trend::RISING,
+            false => Trend::NEITHER,
+        };
+        let held = |known: Option<u32>| match known {
+            Some(_) => Trend::BOTH,
+            None => Trend::NEITHER,
+        };
+        let mut trends = Trends {
+            variables: config.held.map(held),
+            sums: [Trend::BOTH; LISTS],
+            different: [Trend::BOTH; LISTS],
+        };
+        // Only the first BIND of a variable that is not held counts.
+        for bind in step.binds.iter().rev() {
+            if config.held[bind.variable].is_none() {
+                trends.variables[bind.variable] = fresh(bind.field);
             }
         }
-        let mut counts = config.counts;
-        counts[usize::from(config.state)] += 1;
-        value(guard, &held, &counts) == 0 && trend(guard, &trends).falling
+        for gather in &step.gathers {
+            trends.sums[gather.list] = fresh(gather.field);
+            trends.different[gather.list] = Trend::NEITHER;
+        }
+        trends
     }
 
     /// Is some step out of the configuration not hopeless after event n?
     pub fn hopeful(&self, config: &Config, n: usize) -> bool {
         let steps = &self.state(config).steps;
         steps.iter().any(|step| !self.hopeless(config, step, n))
+    }
+}
+
+/// Adds the event's values to the lists that the step gathers into.
+fn gather(lists: &mut Lists, step: &Step, event: &[u32]) {
+    for gather in &step.gathers {
+        lists.add(gather.list, event[gather.field]);
     }
 }
 

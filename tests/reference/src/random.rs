@@ -5,6 +5,7 @@ mod dice;
 mod expressions;
 mod families;
 mod formulas;
+mod gathering;
 mod limits;
 mod logs;
 mod windows;
@@ -28,13 +29,14 @@ pub struct Case {
 /// A case of any kind: good, at a limit, crowded, long or damaged.
 pub fn case(seed: u64) -> Case {
     let mut dice = Dice::new(seed);
-    let (mut log, mut formula) = match dice.below(24) {
+    let (mut log, mut formula) = match dice.below(29) {
         0..=5 => formulas::pair(&mut dice, false),
         6..=9 => windows::window(&mut dice),
         10..=13 => formulas::pair(&mut dice, true),
         14..=16 => families::long(&mut dice),
         17..=18 => families::crowd(&mut dice),
         19..=21 => families::ends(&mut dice),
+        22..=26 => gathering::pair(&mut dice),
         _ => limits::pair(&mut dice),
     };
     let events = Log::read(&log).map_or(0, |log| log.events());
@@ -53,10 +55,11 @@ pub fn case(seed: u64) -> Case {
 /// A small case that passes its checks nearly always and has few runs.
 pub fn small(seed: u64) -> Case {
     let mut dice = Dice::new(seed ^ 0x5EED_0000_0000);
-    let (log, formula) = match dice.below(10) {
+    let (log, formula) = match dice.below(13) {
         0 => families::ends(&mut dice),
         1 => families::crowd(&mut dice),
         2..=4 => windows::window(&mut dice),
+        5..=7 => gathering::pair(&mut dice),
         _ => formulas::pair(&mut dice, false),
     };
     let events = Log::read(&log).map_or(0, |log| log.events());

@@ -17,6 +17,7 @@ pub const UNBOUND: u32 = 8;
 pub const OUTSIDE: u32 = 9;
 pub const SHORT: u32 = 10;
 pub const CROWDED: u32 = 11;
+pub const TWICE: u32 = 12;
 
 #[derive(Clone, Copy, Debug, PartialEq, Eq, PartialOrd, Ord)]
 pub struct Refusal {

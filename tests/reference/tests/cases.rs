@@ -105,7 +105,7 @@ fn evaluated(expression: Vec<u8>) -> u32 {
     let bytes = file(&[state(0), step(0), guard(expression)]);
     let formula = formula::read(&bytes, &log).expect("a formula");
     let guard = formula.states[0].steps[0].guard.as_ref().expect("a guard");
-    value(guard, &Config::START.held, &Config::START.counts)
+    value(guard, &Config::START)
 }
 
 #[test]

@@ -62,7 +62,7 @@ fn the_file_ends_inside_an_expression() {
 #[test]
 fn a_command_interrupts_an_expression() {
     for command in [
-        "00", "1000", "1100", "12", "13", "14", "15", "1600", "01", "1F", "2C", "FF",
+        "00", "1000", "1100", "12", "13", "14", "15", "1600", "17", "01", "1F", "2F", "FF",
     ] {
         let behind_guard = format!("1000 1100 15 {command}");
         assert_eq!(refused_text(&behind_guard), (2, 2, 5), "{command}");
@@ -89,7 +89,7 @@ fn depth_of_an_expression() {
     // Surplus before the missing operand, before the absent variable.
     assert_eq!(refused(nots(8, &[0x20])), (2, 4, 13));
     assert_eq!(refused(nots(8, &[0x21, 0x09])), (2, 4, 13));
-    assert_eq!(refused(nots(8, &[0x2C])), (2, 2, 13));
+    assert_eq!(refused(nots(8, &[0x2F])), (2, 2, 13));
 }
 
 /// A full tree of ADDs: five levels have 31 commands.
@@ -117,7 +117,7 @@ fn length_of_an_expression() {
 
 #[test]
 fn expression_commands_elsewhere_are_foreign() {
-    for code in 0x20..=0x2B {
+    for code in 0x20..=0x2E {
         let byte = format!("{code:02X}");
         assert_eq!(refused_text(&byte), (2, 2, 0));
         assert_eq!(refused_text(&format!("1000 {byte}")), (2, 2, 2));
@@ -144,7 +144,16 @@ fn guards() {
 
 #[test]
 fn tests_and_binds_behind_a_guard_are_foreign() {
-    for part in ["12", "13", "14", "12000000000000", "13000000", "140000"] {
+    for part in [
+        "12",
+        "13",
+        "14",
+        "17",
+        "12000000000000",
+        "13000000",
+        "140000",
+        "170008",
+    ] {
         let bytes = format!("1000 1100 15 2200 {part}");
         assert_eq!(refused_text(&bytes), (2, 2, 7), "{part}");
     }
@@ -156,7 +165,7 @@ fn tests_and_binds_behind_a_guard_are_foreign() {
 
 #[test]
 fn parts_need_a_step_of_their_own_state() {
-    for part in ["12", "13", "14", "15"] {
+    for part in ["12", "13", "14", "15", "17"] {
         assert_eq!(refused_text(part), (2, 2, 0));
         assert_eq!(refused_text(&format!("1600 {part}")), (2, 2, 2));
         assert_eq!(refused_text(&format!("1000 {part}")), (2, 2, 2));
@@ -171,7 +180,16 @@ fn a_ninth_part() {
     let start = "1000 1101 140000 1000 1100";
     let bytes = format!("{start} {eight} 00");
     assert!(outcome(hex(&bytes)).is_ok());
-    for part in ["12", "13", "14", "140900", "12000000000000"] {
+    for part in [
+        "12",
+        "13",
+        "14",
+        "17",
+        "140900",
+        "170008",
+        "170907",
+        "12000000000000",
+    ] {
         let bytes = format!("{start} {eight} {part}");
         assert_eq!(refused_text(&bytes), (2, 4, 39), "{part}");
     }
@@ -239,7 +257,7 @@ fn absent_states_wait_until_behind_end() {
         (2, 3, 8)
     );
     // A later bad command decides, and a leftover too.
-    assert_eq!(refused_text("1000 1109 17 00"), (2, 2, 4));
+    assert_eq!(refused_text("1000 1109 18 00"), (2, 2, 4));
     assert_eq!(refused_text("1000 1109 00 00"), (2, 5, 5));
     assert_eq!(refused_text("1000 1109"), (2, 1, 4));
     // A state declared later is there.

@@ -3,7 +3,7 @@
 use reference::compose::*;
 use reference::formula;
 use reference::log::Log;
-use reference::machine::{trend, Config, Setting, Trend};
+use reference::machine::{trend, Config, Setting, Trend, Trends};
 
 /// Times rise, codes do not.
 fn events(list: &[(u32, u32)]) -> Vec<u8> {
@@ -131,7 +131,12 @@ fn trend_of(expression: Vec<u8>) -> Trend {
     let mut variables = [Trend::NEITHER; 8];
     variables[0] = Trend::BOTH;
     variables[1] = Trend::RISING;
-    trend(guard, &variables)
+    let trends = Trends {
+        variables,
+        sums: [Trend::BOTH; 4],
+        different: [Trend::BOTH; 4],
+    };
+    trend(guard, &trends)
 }
 
 /// Expressions of each trend: both, rising, falling, neither.

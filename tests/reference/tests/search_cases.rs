@@ -9,7 +9,7 @@ use std::process::Command;
 const STORED: &str = include_str!("../../../crates/search_cases/stdout");
 
 /// One step a variable, from a state to itself.
-fn gather(own: u8, variables: u8) -> Vec<u8> {
+fn binding(own: u8, variables: u8) -> Vec<u8> {
     let bound = |variable| join(&[step(own), bind(0, variable)]);
     let steps: Vec<Vec<u8>> = (0..variables).map(bound).collect();
     join(&[state(0), join(&steps)])
@@ -41,7 +41,7 @@ fn log_named(name: &str) -> Vec<u8> {
 fn formula_named(name: &str) -> Vec<u8> {
     let both = join(&[state(0), step(1), step(2)]);
     let bare = join(&[state(0), step(1)]);
-    let (seven, six) = (gather(1, 7), gather(2, 6));
+    let (seven, six) = (binding(1, 7), binding(2, 6));
     let open = join(&[state(0), step(1), test(1, 0, 2), bind(0, 0)]);
     let trip = join(&[state(0), step(2), testv(0, 0, 0), test(1, 0, 1)]);
     let waits = join(&[state(0), step(3), test(0, 0, 1)]);

@@ -62,7 +62,7 @@ fn check_refusals(tally: &Tally) {
         for number in [1, 2, 3, 4, 5, 6] {
             tally.at_least(&format!("{name} 1 {number}"), 3);
         }
-        for number in [1, 2, 3, 4, 5, 7, 8] {
+        for number in [1, 2, 3, 4, 5, 7, 8, 12] {
             tally.at_least(&format!("{name} 2 {number}"), 3);
         }
         for number in [10, 11] {

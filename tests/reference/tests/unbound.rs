@@ -102,10 +102,10 @@ fn parts(bytes: &[u8]) -> Parts {
             _ => {}
         }
         at += match bytes[at] {
-            0x10 | 0x11 | 0x16 | 0x21 | 0x22 => 2,
+            0x10 | 0x11 | 0x16 | 0x21 | 0x22 | 0x2C..=0x2E => 2,
             0x12 => 7,
             0x13 => 4,
-            0x14 => 3,
+            0x14 | 0x17 => 3,
             0x20 => 5,
             _ => 1,
         };
@@ -132,7 +132,7 @@ fn reached_without(parts: &Parts, state: u8, variable: u8) -> bool {
 #[test]
 fn rolled_formulas_agree_with_a_search_of_paths() {
     let (mut bad, mut good) = (0, 0);
-    for seed in 0..20_000 {
+    for seed in 0..30_000 {
         let case = case(seed);
         let Ok(log) = Log::read(&case.log) else {
             continue;

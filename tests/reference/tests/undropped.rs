@@ -39,7 +39,7 @@ fn advance(setting: &Setting, kept: &Kept, n: usize) -> (Kept, Option<Run>) {
             }
         }
         if stays {
-            keep(&mut next, (*config, *arrival), trail.clone());
+            keep(&mut next, (config.clone(), *arrival), trail.clone());
         }
     }
     let run = least.map(|((events, steps), end)| Run { events, steps, end });
@@ -63,7 +63,7 @@ fn search(setting: &Setting, start: usize, seats: usize) -> Option<Outcome> {
         if run.is_some() {
             return Some(Outcome::Done { run, width });
         }
-        let configs = next.keys().map(|(config, _)| *config);
+        let configs = next.keys().map(|(config, _)| config.clone());
         let waiting: BTreeSet<Config> = configs.filter(|c| setting.hopeful(c, n)).collect();
         if waiting.len() > seats {
             return Some(Outcome::Crowded(n));

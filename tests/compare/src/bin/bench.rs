@@ -22,7 +22,7 @@ const LEAST: Duration = Duration::from_millis(100);
 
 const USAGE: &str = "bench [--repeat N] [--events N] [KIND..]
 bench --once analysis|search KIND product|plain [EVENTS]
-kinds: ordinary guards committed overlap quiet still full";
+kinds: ordinary guards committed overlap quiet still full gather";
 
 struct Options {
     repeat: usize,
@@ -184,7 +184,8 @@ fn measure(options: &Options) -> bool {
     for &kind in &options.kinds {
         let pair = heavy::pair(kind, options.events);
         // An analysis with all seats taken would be a thousand such searches.
-        same &= kind == Kind::Full || measure_analysis(kind, &pair, options);
+        let searched_only = matches!(kind, Kind::Full | Kind::Gather);
+        same &= searched_only || measure_analysis(kind, &pair, options);
         same &= measure_search(kind, &pair, options);
     }
     if !same {

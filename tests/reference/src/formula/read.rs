@@ -3,7 +3,7 @@
 use super::*;
 use crate::bytes::{value, Walk};
 use crate::log::Log;
-use crate::refusal::{Refusal, FOREIGN, SURPLUS, VALUE};
+use crate::refusal::{Refusal, FOREIGN, SURPLUS, TWICE, VALUE};
 
 struct Reader<'a> {
     walk: Walk<'a>,
@@ -43,6 +43,7 @@ impl Reader<'_> {
             0x14 => self.bind()?,
             0x15 => self.guard()?,
             0x16 => self.tie()?,
+            0x17 => self.gather()?,
             _ => self.walk.require(false, FOREIGN)?,
         }
         Ok(true)
@@ -84,6 +85,7 @@ impl Reader<'_> {
             target,
             tests: Vec::new(),
             binds: Vec::new(),
+            gathers: Vec::new(),
             guard: None,
         });
         Ok(())
@@ -94,11 +96,13 @@ impl Reader<'_> {
         self.formula.states.last_mut()?.steps.last_mut()
     }
 
-    /// Is there a step that takes one more TEST, TESTV or BIND?
+    /// Is there a step that takes one more TEST, TESTV, BIND or GATHER?
     fn takes_part(&mut self) -> Result<(), Refusal> {
         let open = self.open();
         let ready = open.as_ref().is_some_and(|step| step.guard.is_none());
-        let parts = open.map_or(0, |step| step.tests.len() + step.binds.len());
+        let parts = open.map_or(0, |step| {
+            step.tests.len() + step.binds.len() + step.gathers.len()
+        });
         self.walk.require(ready, FOREIGN)?;
         self.walk.require(parts < MOST_PARTS, SURPLUS)
     }
@@ -139,6 +143,23 @@ impl Reader<'_> {
         Ok(())
     }
 
+    /// Whether the step gathers the variable already is asked before whether
+    /// field and variable exist.
+    fn gather(&mut self) -> Result<(), Refusal> {
+        self.takes_part()?;
+        let raw = self.walk.operands(2)?;
+        let before = self.open().map(|step| step.gathers.clone());
+        let mut before = before.unwrap_or_default().into_iter();
+        let again = before.any(|gather| gather.list + usize::from(FIRST_LIST) == raw[1].into());
+        self.walk.require(!again, TWICE)?;
+        let field = self.field(raw[0])?;
+        let list = self.list(raw[1])?;
+        if let Some(step) = self.open() {
+            step.gathers.push(Gather { field, list });
+        }
+        Ok(())
+    }
+
     fn guard(&mut self) -> Result<(), Refusal> {
         let open = self.open();
         let present = open.is_some();
@@ -157,7 +178,7 @@ impl Reader<'_> {
     fn expression(&mut self, depth: usize, read: &mut usize) -> Result<Expression, Refusal> {
         let code = self.walk.command()?;
         let place = self.walk.place();
-        self.walk.require((0x20..=0x2B).contains(&code), FOREIGN)?;
+        self.walk.require((0x20..=0x2E).contains(&code), FOREIGN)?;
         *read += 1;
         let fits = *read <= MOST_COMMANDS && depth <= MOST_DEPTH;
         self.walk.require(fits, SURPLUS)?;
@@ -172,6 +193,15 @@ impl Reader<'_> {
             0x22 => {
                 let state = usize::from(self.walk.operands(1)?[0]);
                 Expression::Count { place, state }
+            }
+            0x2C..=0x2E => {
+                let operand = self.walk.operands(1)?[0];
+                let list = self.list(operand)?;
+                match code {
+                    0x2C => Expression::Sum(list),
+                    0x2D => Expression::Length(list),
+                    _ => Expression::Different(list),
+                }
             }
             0x28 => Expression::Not(operand()?),
             0x2B => Expression::If(operand()?, operand()?, operand()?),
@@ -188,6 +218,13 @@ impl Reader<'_> {
     fn variable(&self, operand: u8) -> Result<usize, Refusal> {
         self.walk.require(usize::from(operand) < VARIABLES, VALUE)?;
         Ok(usize::from(operand))
+    }
+
+    /// The number of a list, which a variable from 8 to 11 names.
+    fn list(&self, operand: u8) -> Result<usize, Refusal> {
+        let list = usize::from(operand.wrapping_sub(FIRST_LIST));
+        self.walk.require(list < LISTS, VALUE)?;
+        Ok(list)
     }
 
     fn operator(&self, operand: u8) -> Result<Operator, Refusal> {

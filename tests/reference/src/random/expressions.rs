@@ -1,4 +1,4 @@
-//! Guards: conditions over constants, variables and counters.
+//! Guards: conditions over constants, variables, counters and lists.
 
 use super::Dice;
 use crate::compose::*;
@@ -6,6 +6,7 @@ use crate::compose::*;
 /// What an expression may name.
 pub struct Scope<'a> {
     pub variables: &'a [u8],
+    pub lists: &'a [u8],
     pub states: usize,
     pub top: u32,
 }
@@ -87,12 +88,25 @@ fn number(dice: &mut Dice, scope: &Scope, depth: usize) -> Vec<u8> {
 }
 
 fn leaf(dice: &mut Dice, scope: &Scope) -> Vec<u8> {
+    if !scope.lists.is_empty() && dice.chance(35) {
+        return of_list(dice, scope.lists);
+    }
     match dice.below(6) {
         0..=2 if !scope.variables.is_empty() => var(dice.pick(scope.variables)),
         0 | 3 => count(dice.below(scope.states) as u8),
         4 => constant(dice.below(4) as u32),
         _ if dice.chance(3) => constant(u32::MAX),
         _ => constant(dice.below(scope.top.saturating_add(3) as usize) as u32),
+    }
+}
+
+/// The sum, the length or the number of different values of one of the lists.
+pub fn of_list(dice: &mut Dice, lists: &[u8]) -> Vec<u8> {
+    let list = dice.pick(lists);
+    match dice.below(7) {
+        0..=3 => sum(list),
+        4 | 5 => length(list),
+        _ => different(list),
     }
 }
 
@@ -104,7 +118,7 @@ fn commands(bytes: &[u8]) -> usize {
         found += 1;
         at += match bytes[at] {
             0x20 => 5,
-            0x21 | 0x22 => 2,
+            0x21 | 0x22 | 0x2C..=0x2E => 2,
             _ => 1,
         };
     }

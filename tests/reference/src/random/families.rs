@@ -20,21 +20,49 @@ pub fn long(dice: &mut Dice) -> (Vec<u8>, Vec<u8>) {
         _ => op(NOT, &[op(AT_MOST, &[constant(rounds), count(1)])]),
     };
     let done = op(EQUAL, &[count(1), constant(rounds)]);
+    let done = tallied(dice, done, rounds);
+    let all = gathers(dice, fields);
     let mut inner = [
-        join(&[step(1), skip(dice, &log.rising), guard(within)]),
-        join(&[step(2), guard(done)]),
+        join(&[step(1), skip(dice, &log.rising), all.clone(), guard(within)]),
+        join(&[step(2), all.clone(), guard(done)]),
     ];
     if dice.chance(50) {
         inner.reverse();
     }
     let formula = file(&[
         state(dice.pick(&[0, 1])),
-        join(&[step(1), bind(0, 0)]),
+        join(&[step(1), bind(0, 0), all]),
         state(dice.pick(&[0, 1, 1])),
         join(&inner),
         state(dice.pick(&[2, 2, 3])),
     ]);
     (log.bytes, formula)
+}
+
+/// Sometimes a GATHER into each list, or into most.
+fn gathers(dice: &mut Dice, fields: usize) -> Vec<u8> {
+    let often = dice.pick(&[0, 0, 80, 100]);
+    let mut parts = Vec::new();
+    for list in 8..12 {
+        if dice.chance(often) {
+            parts.push(gather(dice.below(fields) as u8, list));
+        }
+    }
+    parts.concat()
+}
+
+/// Sometimes a bound on a list as well, where each of so many rounds may have
+/// gathered into it.
+fn tallied(dice: &mut Dice, done: Vec<u8>, rounds: u32) -> Vec<u8> {
+    let list = dice.between(8, 11) as u8;
+    let bound = match dice.below(6) {
+        0 => op(AT_MOST, &[constant(rounds), length(list)]),
+        1 => op(LESS, &[constant(dice.below(4) as u32), different(list)]),
+        2 => op(LESS, &[constant(dice.below(40) as u32), sum(list)]),
+        3 => op(AT_MOST, &[sum(list), constant(u32::MAX - 1)]),
+        _ => return done,
+    };
+    op(AND, &[done, bound])
 }
 
 /// Sometimes a test that lets an event be passed over.

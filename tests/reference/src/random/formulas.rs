@@ -3,7 +3,7 @@
 use super::expressions::{any, Scope};
 use super::logs::{log, Rolled};
 use super::Dice;
-use crate::compose::{bind, file, guard, state, step, test, testv, tied};
+use crate::compose::{bind, file, gather, guard, state, step, test, testv, tied};
 
 /// What all steps of a formula have in common.
 struct Plan<'a> {
@@ -11,7 +11,10 @@ struct Plan<'a> {
     kinds: Vec<u8>,
     /// Variables that every step of state 0 binds.
     base: Vec<u8>,
-    /// May a step name an absent state or an unbound variable?
+    /// The lists that steps gather into; one of them perhaps nowhere.
+    lists: Vec<u8>,
+    /// May a step name an absent state or an unbound variable, or gather a
+    /// variable twice?
     wild: bool,
 }
 
@@ -56,6 +59,7 @@ fn formula(dice: &mut Dice, log: &Rolled, states: usize) -> Vec<u8> {
         log,
         kinds: kinds(dice, states),
         base: (0..dice.below(3)).map(|_| dice.below(8) as u8).collect(),
+        lists: lists(dice),
         wild: dice.chance(12),
     };
     let mut parts = Vec::new();
@@ -76,7 +80,15 @@ fn formula(dice: &mut Dice, log: &Rolled, states: usize) -> Vec<u8> {
     file(&parts)
 }
 
-/// A step with tests, binds and perhaps a guard.
+/// The lists of a formula: mostly none.
+fn lists(dice: &mut Dice) -> Vec<u8> {
+    let mut lists = vec![8, 9, 10, 11];
+    dice.shuffle(&mut lists);
+    lists.truncate(dice.pick(&[0, 0, 0, 1, 1, 2, 4]));
+    lists
+}
+
+/// A step with tests, binds, gathers and perhaps a guard.
 fn whole_step(dice: &mut Dice, plan: &Plan, number: usize) -> Vec<u8> {
     let mut known = plan.base.clone();
     let mut parts = tests(dice, plan, number);
@@ -90,6 +102,7 @@ fn whole_step(dice: &mut Dice, plan: &Plan, number: usize) -> Vec<u8> {
         known.push(variable);
         parts.push(bind(any_field(dice, plan), variable));
     }
+    gathers(dice, plan, &mut parts);
     dice.shuffle(&mut parts);
     let mut bytes = step(target(dice, plan, number));
     bytes.extend(parts.concat());
@@ -99,12 +112,28 @@ fn whole_step(dice: &mut Dice, plan: &Plan, number: usize) -> Vec<u8> {
         }
         let scope = Scope {
             variables: &known,
+            lists: &plan.lists,
             states: plan.kinds.len(),
             top: plan.log.top,
         };
         bytes.extend(guard(any(dice, &scope)));
     }
     bytes
+}
+
+/// GATHERs into some of the lists, as long as there is room.
+fn gathers(dice: &mut Dice, plan: &Plan, parts: &mut Vec<Vec<u8>>) {
+    for &list in &plan.lists {
+        let times = match plan.wild && dice.chance(4) {
+            true => 2,
+            false => usize::from(dice.chance(60)),
+        };
+        for _ in 0..times {
+            if parts.len() < 8 {
+                parts.push(gather(any_field(dice, plan), list));
+            }
+        }
+    }
 }
 
 /// The tests of a step; seldom one against a variable that is unbound.

@@ -9,7 +9,7 @@ pub fn pair(dice: &mut Dice) -> (Vec<u8>, Vec<u8>) {
     let over = usize::from(dice.chance(50));
     let (mut fields, mut events) = (dice.between(1, 8), dice.between(0, 12));
     let mut parts = Vec::new();
-    match dice.below(11) {
+    match dice.below(12) {
         0 => fields = 8 + over,
         1 if dice.chance(5) => events = 1024 + over,
         2 => parts = states(16 + over),
@@ -20,6 +20,7 @@ pub fn pair(dice: &mut Dice) -> (Vec<u8>, Vec<u8>) {
         7 => parts = ties(dice, 8 + over),
         8 => parts = behind_guard(dice, 7 + over),
         9 => parts = interrupted(dice),
+        10 => parts = gathered_twice(dice),
         _ => parts = guarded(join(&[constant(1), guard(constant(1))])),
     }
     if parts.is_empty() {
@@ -43,10 +44,11 @@ fn repeated(part: Vec<u8>, times: usize) -> Vec<Vec<u8>> {
 
 fn repeated_parts(dice: &mut Dice, times: usize) -> Vec<Vec<u8>> {
     let mut parts = vec![state(0), step(1)];
-    for _ in 0..times {
-        parts.push(match dice.chance(50) {
-            true => bind(0, dice.below(8) as u8),
-            false => test(0, 5, 0),
+    for number in 0..times {
+        parts.push(match dice.below(3) {
+            0 if number < 4 || number + 1 == times => gather(0, 8 + number as u8 % 4),
+            1 => bind(0, dice.below(8) as u8),
+            _ => test(0, 5, 0),
         });
     }
     parts.push(state(3));
@@ -80,8 +82,31 @@ fn behind_guard(dice: &mut Dice, times: usize) -> Vec<Vec<u8>> {
     let mut parts = repeated_parts(dice, times);
     parts.pop();
     parts.push(guard(constant(1)));
-    parts.push(bind(0, dice.below(10) as u8));
+    let variable = dice.below(14) as u8;
+    parts.push(match dice.chance(50) {
+        true => bind(0, variable),
+        false => gather(0, variable),
+    });
     parts.push(state(3));
+    parts
+}
+
+/// A variable gathered a second time, among eight parts or as a ninth, whole
+/// or cut, of a field that is there or not.
+fn gathered_twice(dice: &mut Dice) -> Vec<Vec<u8>> {
+    let others = dice.pick(&[2, 5, 6, 7]);
+    let mut parts = repeated_parts(dice, others);
+    parts.pop();
+    let variable = dice.pick(&[8, 11]);
+    parts.insert(2, gather(0, variable));
+    parts.retain(|part| part[0] != 0x17 || part[2] == variable);
+    let mut again = gather(dice.pick(&[0, 0, 9]), variable);
+    let cut = dice.chance(30);
+    again.truncate(if cut { dice.between(1, 2) } else { 3 });
+    parts.push(again);
+    if !cut {
+        parts.push(state(3));
+    }
     parts
 }
 
@@ -92,7 +117,9 @@ fn interrupted(dice: &mut Dice) -> Vec<Vec<u8>> {
         true => nots(8, Vec::new()),
         false => sum(4, nots(1, Vec::new())),
     };
-    let next = dice.pick(&[0x00, 0x10, 0x11, 0x12, 0x15, 0x16, 0x20, 0x21, 0x28, 0x2C]);
+    let next = dice.pick(&[
+        0x00, 0x10, 0x11, 0x12, 0x15, 0x16, 0x17, 0x20, 0x21, 0x28, 0x2C, 0x2F,
+    ]);
     let mut parts = guarded(expression);
     parts.insert(3, vec![next]);
     parts

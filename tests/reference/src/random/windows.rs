@@ -43,7 +43,7 @@ fn ageing(dice: &mut Dice, top: u32, number: u8, base: u8) -> Vec<u8> {
     let limit = dice.below(5) as u32;
     let upper = dice.pick(&[2, 4]);
     let late = dice.below(top.min(1 << 20) as usize + 2) as u32;
-    let old = match dice.below(10) {
+    let old = match dice.below(13) {
         0 | 1 => test(0, upper, late),
         2 => testv(dice.pick(&[0, 0, 1]), upper, base),
         3 => guard(op(LESS, &[count(number), constant(limit)])),
@@ -54,9 +54,34 @@ fn ageing(dice: &mut Dice, top: u32, number: u8, base: u8) -> Vec<u8> {
         5 => join(&[bind(0, 1), bind(1, 1), guard(within(dice, base, limit))]),
         6 => join(&[bind(1, 1), bind(0, 1), guard(within(dice, base, limit))]),
         7 => join(&[bind(0, base), guard(op(LESS, &[var(base), constant(late)]))]),
-        _ => join(&[bind(0, 1), guard(either(dice, base, limit))]),
+        8 | 9 => join(&[bind(0, 1), guard(either(dice, base, limit))]),
+        _ => gathered(dice, late, base),
     };
     join(&[code, old])
+}
+
+/// What is gathered stays within a bound, written many ways.
+fn gathered(dice: &mut Dice, late: u32, base: u8) -> Vec<u8> {
+    let into = dice.pick(&[8, 8, 8, 9]);
+    let field = dice.pick(&[0, 0, 0, 1]);
+    let of = match dice.below(6) {
+        0 => length(8),
+        1 => different(8),
+        _ => sum(8),
+    };
+    let most = constant(late.saturating_mul(dice.pick(&[1, 1, 2])));
+    let few = op(LESS, &[length(8), constant(2)]);
+    let within = match dice.below(8) {
+        0 => op(LESS, &[of, most]),
+        1 => op(NOT, &[op(LESS, &[most, of])]),
+        2 => op(SUB, &[most, of]),
+        3 => op(AT_MOST, &[op(ADD, &[of, var(base)]), most]),
+        4 => op(EQUAL, &[of, most]),
+        5 => op(LESS, &[most, of]),
+        6 => op(IF, &[few, op(LESS, &[of.clone(), most]), of]),
+        _ => op(AT_MOST, &[of, most]),
+    };
+    join(&[gather(field, into), guard(within)])
 }
 
 /// Variable 1 is no more than so far behind the base, written many ways.

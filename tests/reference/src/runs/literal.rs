@@ -139,7 +139,7 @@ impl All {
         self.partial
             .iter()
             .filter(lives)
-            .map(|run| run.end)
+            .map(|run| run.end.clone())
             .collect()
     }
 
