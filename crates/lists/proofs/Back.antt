@@ -10,7 +10,6 @@ use lib.ListN.{length, getD, drop, replicate, length-append, length-drop, List·
 use lib.Dec.{eqb}
 use borrow.Author.Tests.{le-leb, eq-eqb, ne-eqb, eqb-true, eqb-false}
 use Rattle.base.specs.Lists.{All, pad}
-use Rattle.base.specs.Value.{bytesOf}
 use Rattle.base.proofs.Lists.{getD-pad, length-pad}
 use Rattle.event_log.specs.Log.{Values, Log, eventAt}
 use Rattle.event_log.specs.declared.Event.{Event}
@@ -24,23 +23,14 @@ use Rattle.machine.specs.Firing.{field, gatherAll}
 use Rattle.machine.specs.inner.Along.{Standing, stepTo, step, along}
 use Rattle.machine.proofs.Gathering.{added, list-add-same, list-add-other}
 use Rattle.machine.proofs.Along.{added-once, length-step, short-step}
-use Rattle.machine_code.specs.inner.Bytes.{offsetOf}
-use Rattle.machine_code.specs.inner.Marks.{widthOf}
-use Rattle.machine_code.proofs.WalkOnBytes.{byte-from, first-byte, drop-more, clauses-length}
+use Rattle.machine_code.specs.inner.Bytes.{widthOf, offsetOf}
+use Rattle.machine_code.proofs.WalkOnBytes.{byte-from, first-byte, drop-more, width-encode, clauses-length}
 use Rattle.machine_code.proofs.FiringOnBytes.{StepAt, guardBytes, inside, target-byte, behind-step, parts-exist, clauses-exist}
 use Rattle.machine_code.proofs.SameMachine.{StepThere, Charted}
 use Rattle.slots.specs.inner.Threads.{entryOf}
 use Rattle.lists.specs.inner.Words.{Holds, addIn, gatherIn, gatherFrom, gatherStep, entryIn, targetIn, readBack}
 use Rattle.lists.proofs.Steps.{entry-none, entry-there, target-none, target-there}
 use Rattle.lists.proofs.Holding.{holds-add}
-
--- a clause's bytes are as many as its command says
-width-encode : (k : Clause) (r : List ℕ) → widthOf (getD (encodeClause k ++ r) 0 0) ≡ length (encodeClause k)
-unfolding widthOf encodeClause bytesOf
-width-encode (TEST f o x) r = refl
-width-encode (TESTV f o v) r = refl
-width-encode (BIND f v) r = refl
-width-encode (GATHER f v) r = refl
 
 clause-some : (k : Clause) → length (encodeClause k) ≡ 0 → ⊥
 unfolding encodeClause

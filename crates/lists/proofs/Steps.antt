@@ -11,8 +11,7 @@ use borrow.Author.Tests.{lt-ltb, le-ltb, le-leb, lt-leb, eq-eqb, ne-eqb, eqb-tru
 use Rattle.base.proofs.Lists.{drop-next}
 use Rattle.event_log.specs.declared.Loaded.{Loaded}
 use Rattle.event_log.specs.inner.Loading.{loadedAt}
-use Rattle.machine_code.specs.inner.Bytes.{offsetOf}
-use Rattle.machine_code.specs.inner.Marks.{widthOf}
+use Rattle.machine_code.specs.inner.Bytes.{widthOf, offsetOf}
 use Rattle.lists.specs.inner.Words.{addIn, gatherIn, gatherFrom, gatherStep, entryIn, targetIn, readBack, meets, newIn}
 
 -- the clause at a place

@@ -1,5 +1,5 @@
 -- Walking a step's clauses over its bytes: what each function of the code computes, and that on a step's bytes it is the definition's walk.
-use Prim.Native.Nat.{ℕ, zero, suc, _+_, _-_, _*_, _<_, _≤_}
+use Prim.Native.Nat.{ℕ, zero, suc, _+_, _-_, _<_, _≤_}
 use mathlib.Core.Path.{_≡_, refl, ap, sym, _∙_}
 use mathlib.Core.Bool.{Bool, true, false, cond, _&&_, _||_}
 use mathlib.Core.List.{List}
@@ -9,10 +9,9 @@ use lib.ListN.{length, getD, set, List·getD-eq-default}
 use lib.Seq.{set-out}
 use lib.Dec.{eqb, ltb}
 use Rattle.base.specs.Value.{valueAt}
-use Rattle.machine.specs.inner.Along.{tallyAdd}
 use Rattle.machine_code.specs.declared.Configuration.{Configuration}
 use Rattle.machine_code.specs.declared.Walked.{Walked}
-use Rattle.machine_code.specs.inner.Bytes.{holdsBy, missedBy, isClause, tested, holding, bound, gaining, onward, gained, clauseAt}
+use Rattle.machine_code.specs.inner.Bytes.{holdsBy, missedBy, isClause, tested, holding, bound, noted, clauseAt}
 use Rattle.machine_code.specs.inner.Bytes.{walkFrom, begun, walked}
 
 -- what holds of two walks holds of either
@@ -58,12 +57,10 @@ pub test-made : (w : Walked) (next o x y : ℕ) (r p h d b m : Bool) → h ≡ h
       at = next;
       passes = p;
       due = d;
+      gathers = w .gathers;
       held = w .held;
       values = w .values;
       grows = w .grows;
-      tallies = w .tallies;
-      rising = w .rising;
-      unchanged = w .unchanged;
     }
     ≡ tested w next o x y r
 unfolding tested
@@ -86,154 +83,103 @@ pub hold-taken : (w : Walked) (v x : ℕ) (r : Bool) → getD (w .held) v false 
       at = w .at;
       passes = w .passes;
       due = w .due;
+      gathers = w .gathers;
       held = set (w .held) v true;
       values = set (w .values) v x;
       grows = set (w .grows) v r;
-      tallies = w .tallies;
-      rising = w .rising;
-      unchanged = w .unchanged;
     }
     ≡ holding w v x r
 unfolding holding
 hold-taken w v x r h = rw h
-
--- holding a variable leaves what is known of the lists
-holding-lists : (w : Walked) (v x : ℕ) (r : Bool)
-    → ((holding w v x r) .tallies ≡ w .tallies) × ((holding w v x r) .rising ≡ w .rising) × ((holding w v x r) .unchanged ≡ w .unchanged)
-unfolding holding
-holding-lists w v x r =
-    either (λ d. (d .tallies ≡ w .tallies) × (d .rising ≡ w .rising) × (d .unchanged ≡ w .unchanged)) (getD (w .held) v false) w _ (refl, refl, refl)
-    (refl, refl, refl)
 
 pub bind-made : (w d : Walked) (next v x y : ℕ) (r p : Bool) → d ≡ holding w v x r → y ≡ getD (d .values) v 0 → p ≡ (w .passes && eqb x y)
     → record {
       at = next;
       passes = p;
       due = d .due;
+      gathers = d .gathers;
       held = d .held;
       values = d .values;
       grows = d .grows;
-      tallies = d .tallies;
-      rising = d .rising;
-      unchanged = d .unchanged;
     }
     ≡ bound w next v x r
 unfolding bound
-bind-made w d next v x y r p e₁ e₂ e₃ =
-    let k = holding-lists w v x r in
-    let t : d .tallies ≡ w .tallies = rw e₁ (k .0) in
-    let g : d .rising ≡ w .rising = rw e₁ (k .1) in
-    let u : d .unchanged ≡ w .unchanged = rw e₁ (k .2) in
-    rw (e₃, e₂, ← e₁, t, g, u)
-
--- a GATHER into a list that is not there, and into one that is
-pub gather-out : (w : Walked) (next g o x l : ℕ) (r : Bool) (fresh : List Bool) → l ≡ o - 8 → 4 ≤ l → onward w next ≡ gained w next g o x r fresh
-unfolding gained
-gather-out w next g o x l r fresh e h = rw (← e, le-ltb l 4 h)
-
-pub gather-in : (w : Walked) (next g o x l : ℕ) (r : Bool) (fresh : List Bool) → l ≡ o - 8 → l < 4
-    → gaining w next l x r (getD fresh (l * 8 + g) false) ≡ gained w next g o x r fresh
-unfolding gained
-gather-in w next g o x l r fresh e h = rw (← e, lt-ltb l 4 h)
-
-pub gather-made : (w : Walked) (next g o x l : ℕ) (r n p : Bool) (fresh : List Bool) (ts : List ℕ) → l ≡ o - 8 → l < 4
-    → n ≡ getD fresh (l * 8 + g) false → ts ≡ tallyAdd (w .tallies) l x n → p ≡ (getD (w .rising) l false && r)
-    → record {
-      at = next;
-      passes = w .passes;
-      due = w .due;
-      held = w .held;
-      values = w .values;
-      grows = w .grows;
-      tallies = ts;
-      rising = set (w .rising) l p;
-      unchanged = set (w .unchanged) l false;
-    }
-    ≡ gained w next g o x r fresh
-unfolding gaining
-gather-made w next g o x l r n p fresh ts e h f t q = rw (← gather-in w next g o x l r fresh e h, ← f, ← t, ← q)
+bind-made w d next v x y r p e₁ e₂ e₃ = rw (e₃, e₂, ← e₁)
 
 -- the clause's operands as the code reads them
-module _ (f prior : List ℕ) (fresh rises : List Bool) (event : List ℕ) (w : Walked) (field x o c : ℕ) (r : Bool)
+module _ (f prior : List ℕ) (rises : List Bool) (event : List ℕ) (w : Walked) (field x o c : ℕ) (r : Bool)
     (e₁ : field ≡ getD f (w .at + 1) 0) (e₂ : x ≡ getD event field 0) (e₃ : r ≡ getD rises field false) (e₄ : o ≡ getD f (w .at + 2) 0)
     (e₅ : c ≡ getD f (w .at) 0) where
-  pub clause-test : (y : ℕ) (d : Walked) → c ≡ 0x12 → y ≡ valueAt f (w .at + 3) → d ≡ tested w (w .at + 7) o x y r → d ≡ clauseAt f prior fresh rises event w
+  pub clause-test : (y : ℕ) (d : Walked) → c ≡ 0x12 → y ≡ valueAt f (w .at + 3) → d ≡ tested w (w .at + 7) o x y r → d ≡ clauseAt f prior rises event w
   unfolding clauseAt
   clause-test y d k e g = rw (← e₅, k, ← e₁, ← e₂, ← e₃, ← e₄, ← e) g
 
   pub clause-testv : (v y : ℕ) (d : Walked) → c ≡ 0x13 → v ≡ getD f (w .at + 3) 0 → y ≡ getD prior v 0 → d ≡ tested w (w .at + 4) o x y r
-      → d ≡ clauseAt f prior fresh rises event w
+      → d ≡ clauseAt f prior rises event w
   unfolding clauseAt
   clause-testv v y d k e₆ e g = rw (← e₅, k, ← e₁, ← e₂, ← e₃, ← e₄, ← e₆, ← e) g
 
-  pub clause-gain : (d : Walked) → c ≡ 0x17 → d ≡ gained w (w .at + 3) field o x r fresh → d ≡ clauseAt f prior fresh rises event w
+  pub clause-note : (d : Walked) → c ≡ 0x17 → d ≡ noted w (w .at + 3) → d ≡ clauseAt f prior rises event w
   unfolding clauseAt
-  clause-gain d k g = rw (← e₅, k, ← e₁, ← e₂, ← e₃, ← e₄) g
+  clause-note d k g = rw (← e₅, k) g
 
-  pub clause-bind : (d : Walked) → (c ≡ 0x12 → ⊥) → (c ≡ 0x13 → ⊥) → (c ≡ 0x17 → ⊥) → d ≡ bound w (w .at + 3) o x r → d ≡ clauseAt f prior fresh rises event w
+  pub clause-bind : (d : Walked) → (c ≡ 0x12 → ⊥) → (c ≡ 0x13 → ⊥) → (c ≡ 0x17 → ⊥) → d ≡ bound w (w .at + 3) o x r → d ≡ clauseAt f prior rises event w
   unfolding clauseAt
   clause-bind d n m k g = rw (← e₅, ne-eqb c 0x12 n, ne-eqb c 0x13 m, ne-eqb c 0x17 k, ← e₁, ← e₂, ← e₃, ← e₄) g
 
 -- a clause takes at least 3 bytes
-pub gained-at : (w : Walked) (next g o x : ℕ) (r : Bool) (fresh : List Bool) → (gained w next g o x r fresh) .at ≡ next
-unfolding gained gaining
-gained-at w next g o x r fresh = either (λ d. d .at ≡ next) (ltb (o - 8) 4) _ _ refl refl
-
-past : (n k : ℕ) → k ≡ n → n ≤ k
-past n k e = omega arith
-
-pub clause-progress : (f prior : List ℕ) (fresh rises : List Bool) (event : List ℕ) (w : Walked) → w .at + 3 ≤ (clauseAt f prior fresh rises event w) .at
-unfolding clauseAt tested bound
-clause-progress f prior fresh rises event w =
+pub clause-progress : (f prior : List ℕ) (rises : List Bool) (event : List ℕ) (w : Walked) → w .at + 3 ≤ (clauseAt f prior rises event w) .at
+unfolding clauseAt tested bound noted
+clause-progress f prior rises event w =
     let c = getD f (w .at) 0 in
     either (λ d. w .at + 3 ≤ d .at) (eqb c 0x12) _ _ (omega arith)
     (either (λ d. w .at + 3 ≤ d .at) (eqb c 0x13) _ _ (omega arith)
-    (either (λ d. w .at + 3 ≤ d .at) (eqb c 0x17) _ _ (past (w .at + 3) _ (gained-at w (w .at + 3) _ _ _ _ fresh)) (omega arith)))
+    (either (λ d. w .at + 3 ≤ d .at) (eqb c 0x17) _ _ (omega arith) (omega arith)))
 
 -- a walk from v on that stands at w: what is left to walk is what was left from v
-pub record Walking (f prior : List ℕ) (fresh rises : List Bool) (event : List ℕ) (v w : Walked) : Type 0 where
+pub record Walking (f prior : List ℕ) (rises : List Bool) (event : List ℕ) (v w : Walked) : Type 0 where
   pub left : ℕ
   pub enough : length f < left + w .at
-  pub ahead : walkFrom (suc (length f)) f prior fresh rises event v ≡ walkFrom left f prior fresh rises event w
+  pub ahead : walkFrom (suc (length f)) f prior rises event v ≡ walkFrom left f prior rises event w
 
-module _ (f prior : List ℕ) (fresh rises : List Bool) (event : List ℕ) (v : Walked) where
-  pub walking-start : Walking f prior fresh rises event v v
+module _ (f prior : List ℕ) (rises : List Bool) (event : List ℕ) (v : Walked) where
+  pub walking-start : Walking f prior rises event v v
   walking-start = record { left = suc (length f); enough = omega arith; ahead = refl }
 
   step : (n : ℕ) (w : Walked) → 0 < n → isClause (getD f (w .at) 0) ≡ true
-      → walkFrom n f prior fresh rises event w ≡ walkFrom (n - 1) f prior fresh rises event (clauseAt f prior fresh rises event w)
+      → walkFrom n f prior rises event w ≡ walkFrom (n - 1) f prior rises event (clauseAt f prior rises event w)
   unfolding walkFrom
   step zero w h e = absurd (omega arith)
   step (suc n) w h e = let q : suc n - 1 ≡ n = omega arith in rw (e, q)
 
-  stop : (n : ℕ) (w : Walked) → isClause (getD f (w .at) 0) ≡ false → walkFrom n f prior fresh rises event w ≡ w
+  stop : (n : ℕ) (w : Walked) → isClause (getD f (w .at) 0) ≡ false → walkFrom n f prior rises event w ≡ w
   unfolding walkFrom
   stop zero w e = refl
   stop (suc n) w e = rw e
 
-  pub walking-more : (w d : Walked) → Walking f prior fresh rises event v w → isClause (getD f (w .at) 0) ≡ true → d ≡ clauseAt f prior fresh rises event w
-      → Walking f prior fresh rises event v d
+  pub walking-more : (w d : Walked) → Walking f prior rises event v w → isClause (getD f (w .at) 0) ≡ true → d ≡ clauseAt f prior rises event w
+      → Walking f prior rises event v d
   walking-more w d h e q =
       let i = clause-inside f (w .at) e in
-      let p : w .at + 3 ≤ d .at = rw q (clause-progress f prior fresh rises event w) in
+      let p : w .at + 3 ≤ d .at = rw q (clause-progress f prior rises event w) in
       let n : 0 < h .left = omega (arith, h .enough) in
       record {
         left = h .left - 1;
         enough = omega (arith, h .enough);
-        ahead = h .ahead ∙ step (h .left) w n e ∙ ap (walkFrom (h .left - 1) f prior fresh rises event) (sym q);
+        ahead = h .ahead ∙ step (h .left) w n e ∙ ap (walkFrom (h .left - 1) f prior rises event) (sym q);
       }
 
-  pub walking-done : (w : Walked) → Walking f prior fresh rises event v w → isClause (getD f (w .at) 0) ≡ false
-      → w ≡ walkFrom (suc (length f)) f prior fresh rises event v
+  pub walking-done : (w : Walked) → Walking f prior rises event v w → isClause (getD f (w .at) 0) ≡ false
+      → w ≡ walkFrom (suc (length f)) f prior rises event v
   walking-done w h e = sym (h .ahead ∙ stop (h .left) w e)
 
-  pub walking-less : (w d : Walked) → isClause (getD f (w .at) 0) ≡ true → d ≡ clauseAt f prior fresh rises event w → length f - d .at < length f - w .at
+  pub walking-less : (w d : Walked) → isClause (getD f (w .at) 0) ≡ true → d ≡ clauseAt f prior rises event w → length f - d .at < length f - w .at
   walking-less w d e q =
       let i = clause-inside f (w .at) e in
-      let p : w .at + 3 ≤ d .at = rw q (clause-progress f prior fresh rises event w) in
+      let p : w .at + 3 ≤ d .at = rw q (clause-progress f prior rises event w) in
       omega arith
 
-pub walked-from : (f : List ℕ) (at : ℕ) (c : Configuration) (fresh rises : List Bool) (event : List ℕ) (v w : Walked) → v ≡ begun at c
-    → w ≡ walkFrom (suc (length f)) f (c .values) fresh rises event v → w ≡ walked f at c fresh rises event
+pub walked-from : (f : List ℕ) (at : ℕ) (c : Configuration) (rises : List Bool) (event : List ℕ) (v w : Walked) → v ≡ begun at c
+    → w ≡ walkFrom (suc (length f)) f (c .values) rises event v → w ≡ walked f at c rises event
 unfolding walked
-walked-from f at c fresh rises event v w p q = rw (← p) q
+walked-from f at c rises event v w p q = rw (← p) q

@@ -1,22 +1,22 @@
 -- What an event alone says of a step: a clause that fails keeps the walk from passing, and one past due stays past due, whatever follows.
-use Prim.Native.Nat.{ℕ, zero, suc, _+_, _-_, _≤_}
+use Prim.Native.Nat.{ℕ, zero, suc, _+_, _≤_}
 use mathlib.Core.Path.{_≡_, refl, ap, sym, subst, _∙_}
-use mathlib.Core.Bool.{Bool, true, false, cond, not, _&&_, _||_}
+use mathlib.Core.Bool.{Bool, true, false, cond, not, _&&_, _||_, true≢false}
 use mathlib.Core.List.{List}
 use native.Mathlib.Omega.{arith}
-use borrow.Author.Tests.{ne-eqb, eqb-true, not-true}
+use borrow.Author.Tests.{ne-eqb, eqb-true, eqb-false, ltb-true, ltb-false, not-true}
 use lib.ListN.{length, getD, replicate}
 use lib.Dec.{eqb, ltb, leb}
 use Rattle.base.specs.Value.{valueAt}
 use Rattle.machine_code.specs.declared.Configuration.{Configuration}
 use Rattle.machine_code.specs.declared.Fired.{Fired}
 use Rattle.machine_code.specs.declared.Walked.{Walked}
-use Rattle.machine_code.specs.inner.Bytes.{holdsBy, missedBy, isClause, tested, holding, bound, gaining, gained, clauseAt, walkFrom, begun}
+use Rattle.machine_code.specs.inner.Bytes.{holdsBy, missedBy, isClause, widthOf, tested, holding, bound, noted, clauseAt, walkFrom, begun}
 use Rattle.machine_code.specs.inner.Bytes.{walked, fired, lapsed}
 use Rattle.base.proofs.Tests.{and-false, or-right}
 use Rattle.runs.proofs.Moves.{and-both}
-use Rattle.machine_code.specs.inner.Marks.{widthOf, failsAt, missesAt, Reaches, begins, onward}
-use Rattle.machine_code.proofs.ClausesOnBytes.{either, clause-gather, clause-in, gained-at, Walking, walking-start, walking-more}
+use Rattle.machine_code.specs.inner.Marks.{failsAt, missesAt, Reaches, begins, onward}
+use Rattle.machine_code.proofs.ClausesOnBytes.{either, clause-gather, clause-in, clause-low, clause-high, Walking, walking-start, walking-more}
 
 and-fails : (a b : Bool) → a ≡ false → (a && b) ≡ false
 and-fails a b h = rw h
@@ -33,9 +33,9 @@ test-fails : (w : Walked) (next o x y : ℕ) (r : Bool) → Failed w → Failed 
 unfolding tested
 test-fails w next o x y r h = rw h
 
-gain-fails : (w : Walked) (next g o x : ℕ) (r : Bool) (fresh : List Bool) → Failed w → Failed (gained w next g o x r fresh)
-unfolding gained gaining
-gain-fails w next g o x r fresh h = either Failed (ltb (o - 8) 4) _ _ h h
+note-fails : (w : Walked) (next : ℕ) → Failed w → Failed (noted w next)
+unfolding noted
+note-fails w next h = h
 
 bind-fails : (w : Walked) (next v x : ℕ) (r : Bool) → Failed w → Failed (bound w next v x r)
 unfolding bound
@@ -45,39 +45,39 @@ test-due : (w : Walked) (next o x y : ℕ) (r : Bool) → Late w → Late (teste
 unfolding tested
 test-due w next o x y r h = rw h
 
-gain-due : (w : Walked) (next g o x : ℕ) (r : Bool) (fresh : List Bool) → Late w → Late (gained w next g o x r fresh)
-unfolding gained gaining
-gain-due w next g o x r fresh h = either Late (ltb (o - 8) 4) _ _ h h
+note-due : (w : Walked) (next : ℕ) → Late w → Late (noted w next)
+unfolding noted
+note-due w next h = h
 
 bind-due : (w : Walked) (next v x : ℕ) (r : Bool) → Late w → Late (bound w next v x r)
 unfolding bound holding
 bind-due w next v x r h = either Late (getD (w .held) v false) w _ h h
 
-module _ (f prior : List ℕ) (fresh rises : List Bool) (event : List ℕ) where
+module _ (f prior : List ℕ) (rises : List Bool) (event : List ℕ) where
   -- what each clause keeps, every clause keeps
-  clause-keeps : (P : Walked → Type 0) (w : Walked) → ((next o x y : ℕ) (r : Bool) → P (tested w next o x y r))
-      → ((next g o x : ℕ) (r : Bool) → P (gained w next g o x r fresh)) → ((next v x : ℕ) (r : Bool) → P (bound w next v x r))
-      → P (clauseAt f prior fresh rises event w)
+  pub clause-keeps : (P : Walked → Type 0) (w : Walked) → ((next o x y : ℕ) (r : Bool) → P (tested w next o x y r))
+      → ((next : ℕ) → P (noted w next)) → ((next v x : ℕ) (r : Bool) → P (bound w next v x r))
+      → P (clauseAt f prior rises event w)
   unfolding clauseAt
   clause-keeps P w t g b =
       let c = getD f (w .at) 0 in
-      either P (eqb c 0x12) _ _ (t _ _ _ _ _) (either P (eqb c 0x13) _ _ (t _ _ _ _ _) (either P (eqb c 0x17) _ _ (g _ _ _ _ _) (b _ _ _ _)))
+      either P (eqb c 0x12) _ _ (t _ _ _ _ _) (either P (eqb c 0x13) _ _ (t _ _ _ _ _) (either P (eqb c 0x17) _ _ (g _) (b _ _ _ _)))
 
-  walk-keeps : (P : Walked → Type 0) → ((w : Walked) → P w → P (clauseAt f prior fresh rises event w))
-      → (n : ℕ) (w : Walked) → P w → P (walkFrom n f prior fresh rises event w)
+  pub walk-keeps : (P : Walked → Type 0) → ((w : Walked) → P w → P (clauseAt f prior rises event w))
+      → (n : ℕ) (w : Walked) → P w → P (walkFrom n f prior rises event w)
   unfolding walkFrom
   walk-keeps P k zero w h = h
-  walk-keeps P k (suc n) w h = either P (isClause (getD f (w .at) 0)) _ w (walk-keeps P k n (clauseAt f prior fresh rises event w) (k w h)) h
+  walk-keeps P k (suc n) w h = either P (isClause (getD f (w .at) 0)) _ w (walk-keeps P k n (clauseAt f prior rises event w) (k w h)) h
 
-  pub walk-fails : (n : ℕ) (w : Walked) → w .passes ≡ false → (walkFrom n f prior fresh rises event w) .passes ≡ false
+  pub walk-fails : (n : ℕ) (w : Walked) → w .passes ≡ false → (walkFrom n f prior rises event w) .passes ≡ false
   walk-fails =
       walk-keeps Failed
-      (λ w h. clause-keeps Failed w (λ n o x y r. test-fails w n o x y r h) (λ n g o x r. gain-fails w n g o x r fresh h) (λ n v x r. bind-fails w n v x r h))
+      (λ w h. clause-keeps Failed w (λ n o x y r. test-fails w n o x y r h) (λ n. note-fails w n h) (λ n v x r. bind-fails w n v x r h))
 
-  walk-due : (n : ℕ) (w : Walked) → w .due ≡ true → (walkFrom n f prior fresh rises event w) .due ≡ true
+  walk-due : (n : ℕ) (w : Walked) → w .due ≡ true → (walkFrom n f prior rises event w) .due ≡ true
   walk-due =
       walk-keeps Late
-      (λ w h. clause-keeps Late w (λ n o x y r. test-due w n o x y r h) (λ n g o x r. gain-due w n g o x r fresh h) (λ n v x r. bind-due w n v x r h))
+      (λ w h. clause-keeps Late w (λ n o x y r. test-due w n o x y r h) (λ n. note-due w n h) (λ n v x r. bind-due w n v x r h))
 
 -- a clause's command, and where the walk stands behind it
 width-clause : (c : ℕ) → (widthOf c ≡ 0 → ⊥) → isClause c ≡ true
@@ -94,6 +94,26 @@ width-clause c n = go (eqb c 0x12) (eqb c 0x13) (eqb c 0x17) (eqb c 0x14) refl r
     go false false false true p q h k = let e : c ≡ 0x14 = eqb-true c 0x14 k in inside (omega arith) (omega arith)
     go false false false false p q h k = absurd (n (rw (p, q, h, k)))
 
+-- a clause takes at least 3 bytes
+pub clause-width : (c : ℕ) → isClause c ≡ true → 3 ≤ widthOf c
+unfolding widthOf
+clause-width c h = go (eqb c 0x12) (eqb c 0x13) (eqb c 0x17) (eqb c 0x14) refl refl refl refl
+  where
+    none : (eqb c 0x12 ≡ false) → (eqb c 0x13 ≡ false) → (eqb c 0x17 ≡ false) → (eqb c 0x14 ≡ false) → (b : Bool) → ltb c 0x12 ≡ b → false ≡ isClause c
+    none p q r k true e = clause-low c (ltb-true c 0x12 e)
+    none p q r k false e =
+        let n = eqb-false c 0x12 p in
+        let m = eqb-false c 0x13 q in
+        let l = eqb-false c 0x14 k in
+        clause-high c (eqb-false c 0x17 r) (omega (arith, ltb-false c 0x12 e))
+
+    go : (s t g u : Bool) → eqb c 0x12 ≡ s → eqb c 0x13 ≡ t → eqb c 0x17 ≡ g → eqb c 0x14 ≡ u → 3 ≤ cond s 7 (cond t 4 (cond g 3 (cond u 3 0)))
+    go true t g u p q r k = omega arith
+    go false true g u p q r k = omega arith
+    go false false true u p q r k = omega arith
+    go false false false true p q r k = omega arith
+    go false false false false p q r k = absurd (true≢false (sym h ∙ sym (none p q r k (ltb c 0x12) refl)))
+
 -- a clause takes 7 bytes at most
 pub width-most : (c taken : ℕ) → taken ≡ widthOf c → taken ≤ 7
 unfolding widthOf
@@ -106,12 +126,12 @@ width-most c taken e = go (eqb c 0x12) (eqb c 0x13) (eqb c 0x17) (eqb c 0x14) e
     go false false false true e = omega arith
     go false false false false e = omega arith
 
-clause-place : (f prior : List ℕ) (fresh rises : List Bool) (event : List ℕ) (w : Walked) → (widthOf (getD f (w .at) 0) ≡ 0 → ⊥)
-    → (clauseAt f prior fresh rises event w) .at ≡ w .at + widthOf (getD f (w .at) 0)
-unfolding clauseAt tested bound widthOf
-clause-place f prior fresh rises event w n =
+pub clause-place : (f prior : List ℕ) (rises : List Bool) (event : List ℕ) (w : Walked) → (widthOf (getD f (w .at) 0) ≡ 0 → ⊥)
+    → (clauseAt f prior rises event w) .at ≡ w .at + widthOf (getD f (w .at) 0)
+unfolding clauseAt tested bound noted widthOf
+clause-place f prior rises event w n =
     let c = getD f (w .at) 0 in
-    go (eqb c 0x12) (eqb c 0x13) (eqb c 0x17) (eqb c 0x14) _ _ _ _ refl refl (gained-at w (w .at + 3) _ _ _ _ fresh) refl n
+    go (eqb c 0x12) (eqb c 0x13) (eqb c 0x17) (eqb c 0x14) _ _ _ _ refl refl refl refl n
   where
     go : (s t g u : Bool) (a b d e : Walked) → a .at ≡ w .at + 7 → b .at ≡ w .at + 4 → d .at ≡ w .at + 3 → e .at ≡ w .at + 3
         → (_≡_ {A = ℕ} (cond s 7 (cond t 4 (cond g 3 (cond u 3 0)))) 0 → ⊥)
@@ -123,53 +143,53 @@ clause-place f prior fresh rises event w n =
     go false false false false a b d e p q h k n = absurd (n refl)
 
 -- a TEST that is false on the event, and one past due, whatever is held
-module _ (f prior : List ℕ) (fresh rises : List Bool) (event : List ℕ) (w : Walked) where
-  fails-here : failsAt f (getD f (w .at) 0) (w .at) event ≡ true → (clauseAt f prior fresh rises event w) .passes ≡ false
+module _ (f prior : List ℕ) (rises : List Bool) (event : List ℕ) (w : Walked) where
+  fails-here : failsAt f (getD f (w .at) 0) (w .at) event ≡ true → (clauseAt f prior rises event w) .passes ≡ false
   unfolding clauseAt tested failsAt
   fails-here h =
       let p = and-both (eqb (getD f (w .at) 0) 0x12) _ h in
       let q = not-true _ (p .1) in
       rw (p .0) (and-false (w .passes) _ q)
 
-  misses-here : missesAt f (getD f (w .at) 0) (w .at) rises event ≡ true → (clauseAt f prior fresh rises event w) .due ≡ true
+  misses-here : missesAt f (getD f (w .at) 0) (w .at) rises event ≡ true → (clauseAt f prior rises event w) .due ≡ true
   unfolding clauseAt tested missesAt
   misses-here h =
       let p = and-both (eqb (getD f (w .at) 0) 0x12) _ h in
       rw (p .0) (or-right (w .due) _ (p .1))
 
 -- the walk of a configuration at a place
-pub record Standing (f event : List ℕ) (at place : ℕ) (c : Configuration) (fresh rises : List Bool) : Type 0 where
+pub record Standing (f event : List ℕ) (at place : ℕ) (c : Configuration) (rises : List Bool) : Type 0 where
   pub w : Walked
-  pub walking : Walking f (c .values) fresh rises event (begun at c) w
+  pub walking : Walking f (c .values) rises event (begun at c) w
   pub stands : w .at ≡ place
 
 abbrev pub Reached : List ℕ → List ℕ → ℕ → ℕ → Type 0
-Reached f event at place = (c : Configuration) (fresh rises : List Bool) → Standing f event at place c fresh rises
+Reached f event at place = (c : Configuration) (rises : List Bool) → Standing f event at place c rises
 
 module _ (f event : List ℕ) (at : ℕ) where
   pub reach-start : Reached f event at (at + 2)
   unfolding begun
-  reach-start c fresh rises = record { w = begun at c; walking = walking-start f (c .values) fresh rises event (begun at c); stands = refl }
+  reach-start c rises = record { w = begun at c; walking = walking-start f (c .values) rises event (begun at c); stands = refl }
 
   module _ (place taken command : ℕ) (e₁ : command ≡ getD f place 0) (e₂ : taken ≡ widthOf command) (n : taken ≡ 0 → ⊥) (r : Reached f event at place) where
     wide-here : (w : Walked) → w .at ≡ place → widthOf (getD f (w .at) 0) ≡ 0 → ⊥
     wide-here w a = rw (a, ← e₁, ← e₂) n
 
     -- over the clause
-    over : (c : Configuration) (fresh rises : List Bool)
-        → Walking f (c .values) fresh rises event (begun at c) (clauseAt f (c .values) fresh rises event ((r c fresh rises) .w))
-    over c fresh rises =
-        let s = r c fresh rises in
-        walking-more f (c .values) fresh rises event (begun at c) (s .w) _ (s .walking) (width-clause (getD f (s .w .at) 0) (wide-here (s .w) (s .stands))) refl
+    over : (c : Configuration) (rises : List Bool)
+        → Walking f (c .values) rises event (begun at c) (clauseAt f (c .values) rises event ((r c rises) .w))
+    over c rises =
+        let s = r c rises in
+        walking-more f (c .values) rises event (begun at c) (s .w) _ (s .walking) (width-clause (getD f (s .w .at) 0) (wide-here (s .w) (s .stands))) refl
 
     pub reach-on : Reached f event at (place + taken)
-    reach-on c fresh rises =
-        let s = r c fresh rises in
+    reach-on c rises =
+        let s = r c rises in
         record {
-          w = clauseAt f (c .values) fresh rises event (s .w);
-          walking = over c fresh rises;
+          w = clauseAt f (c .values) rises event (s .w);
+          walking = over c rises;
           stands =
-              clause-place f (c .values) fresh rises event (s .w) (wide-here (s .w) (s .stands))
+              clause-place f (c .values) rises event (s .w) (wide-here (s .w) (s .stands))
               ∙ ap (λ i. i + widthOf (getD f i 0)) (s .stands)
               ∙ ap (λ i. place + i) (sym (e₂ ∙ ap widthOf e₁));
         }
@@ -178,12 +198,12 @@ module _ (f event : List ℕ) (at : ℕ) where
     pub silent-here : failsAt f command place event ≡ true → (fresh : List Bool) (c : Configuration) → (fired f at c fresh event) .fires ≡ false
     unfolding fired walked
     silent-here k fresh c =
-        let s = r c fresh (replicate 8 false) in
+        let s = r c (replicate 8 false) in
         let a : failsAt f (getD f (s .w .at) 0) (s .w .at) event ≡ true = rw (s .stands, ← e₁) k in
-        let q = over c fresh (replicate 8 false) in
-        let p : (walkFrom (suc (length f)) f (c .values) fresh (replicate 8 false) event (begun at c)) .passes ≡ false
+        let q = over c (replicate 8 false) in
+        let p : (walkFrom (suc (length f)) f (c .values) (replicate 8 false) event (begun at c)) .passes ≡ false
         = ap (λ (v : Walked). v .passes) (q .ahead)
-        ∙ walk-fails f (c .values) fresh (replicate 8 false) event (q .left) _ (fails-here f (c .values) fresh (replicate 8 false) event (s .w) a) in
+        ∙ walk-fails f (c .values) (replicate 8 false) event (q .left) _ (fails-here f (c .values) (replicate 8 false) event (s .w) a) in
         go (leb (length f) at) _ _ refl (and-fails _ _ p)
       where
         go : (t : Bool) (a d : Fired) → a .fires ≡ false → d .fires ≡ false → (cond t a d) .fires ≡ false
@@ -195,12 +215,12 @@ module _ (f event : List ℕ) (at : ℕ) where
         → lapsed f at c fresh rises event ≡ true
     unfolding lapsed walked
     late-here rises k fresh c =
-        let s = r c fresh rises in
+        let s = r c rises in
         let a : missesAt f (getD f (s .w .at) 0) (s .w .at) rises event ≡ true = rw (s .stands, ← e₁) k in
-        let q = over c fresh rises in
-        let d : (walkFrom (suc (length f)) f (c .values) fresh rises event (begun at c)) .due ≡ true
+        let q = over c rises in
+        let d : (walkFrom (suc (length f)) f (c .values) rises event (begun at c)) .due ≡ true
         = ap (λ (v : Walked). v .due) (q .ahead)
-        ∙ walk-due f (c .values) fresh rises event (q .left) _ (misses-here f (c .values) fresh rises event (s .w) a) in
+        ∙ walk-due f (c .values) rises event (q .left) _ (misses-here f (c .values) rises event (s .w) a) in
         go (leb (length f) at) _ _ d
       where
         go : (t : Bool) (u v : Bool) → u ≡ true → cond t true (u || v) ≡ true

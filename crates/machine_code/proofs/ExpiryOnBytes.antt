@@ -1,7 +1,7 @@
 -- Expiry over the formula's bytes: what each function of the code computes, and that on a step's bytes it is the definition's.
-use Prim.Native.Nat.{ℕ, _+_, _*_, _<_, _≤_}
+use Prim.Native.Nat.{ℕ, _+_, _<_, _≤_}
 use mathlib.Core.Path.{_≡_, refl, ap, sym, _∙_}
-use mathlib.Core.Bool.{Bool, true, false, cond, not, _&&_, _||_, and-assoc}
+use mathlib.Core.Bool.{Bool, true, false, cond, not, _&&_, _||_}
 use mathlib.Core.List.{List, [], _∷_, _++_}
 use mathlib.Core.Option.{Option, none, some}
 use native.Mathlib.Omega.{arith}
@@ -10,22 +10,23 @@ use lib.ListN.{length, getD, drop, set, length-set, getD-replicate}
 use lib.Seq.{getD-set-same, getD-set-other}
 use lib.Dec.{eqb}
 use Rattle.base.specs.Lists.{All}
-use Rattle.base.proofs.Tests.{and-false}
 use Rattle.event_log.specs.Log.{Kind}
 use Rattle.formula.specs.Formula.{Expr, Clause, TEST, TESTV, BIND, GATHER, Step}
 use Rattle.formula.specs.Encode.{operatorByte, encodeExpr, guardCommands}
 use Rattle.formula.specs.Correct.{LeafExists, Exists, GuardFits}
 use Rattle.machine_code.specs.declared.Configuration.{Configuration}
+use Rattle.machine_code.specs.declared.Gained.{Gained}
 use Rattle.machine_code.specs.declared.Walked.{Walked}
 use Rattle.machine.specs.Firing.{isHeld, leave}
 use Rattle.machine.specs.Expiry.{rises, firstBind, fieldRises, gathers, gathersRising, guardFalls, expired}
 use Rattle.guard_code.specs.inner.Bytes.{leafMarked, fallsAt}
-use Rattle.machine_code.specs.inner.Bytes.{tested, holding, bound, gaining, begun, walked, raised, guardBehind, configOf, falling, growing}
+use Rattle.machine_code.specs.inner.Bytes.{tested, holding, bound, noted, begun, walked, kept, gained, raised, guardBehind, configOf, falling, growing}
 use Rattle.machine_code.specs.inner.Bytes.{fallsBehind, lapsed}
-use Rattle.machine_code.proofs.WalkOnBytes.{first-byte, drop-more, clauseOf, walkOf, and-end}
+use Rattle.machine_code.proofs.WalkOnBytes.{first-byte, drop-more, walkOf}
 use Rattle.guard_code.proofs.TrendOnBytes.{judge-encode, marked-rises, marked-falls}
-use Rattle.machine_code.proofs.FiringOnBytes.{StepAt, Ready, Carries, guardBytes, inside, walked-encode, walked-along, walked-ends, guard-left}
+use Rattle.machine_code.proofs.FiringOnBytes.{StepAt, Ready, Carries, guardBytes, inside, walked-encode, walked-along, walked-ends, gained-encode, guard-left}
 use Rattle.machine_code.proofs.FiringOnBytes.{parts-exist, guard-exists}
+use Rattle.machine_code.proofs.GainingOnBytes.{gains-by, judged}
 
 pub lapsed-out : (f : List ℕ) (at : ℕ) (c : Configuration) (fresh rising : List Bool) (event : List ℕ) → length f ≤ at
     → true ≡ lapsed f at c fresh rising event
@@ -34,21 +35,23 @@ lapsed-out f at c fresh rising event h = rw (le-leb (length f) at h)
 
 -- the code's three ways out behind the walk
 module _ (f : List ℕ) (at : ℕ) (c : Configuration) (fresh rising : List Bool) (event : List ℕ) (w : Walked) (in-file : at < length f)
-    (e : w ≡ walked f at c fresh rising event) where
+    (e : w ≡ walked f at c rising event) where
   pub lapsed-due : w .due ≡ true → true ≡ lapsed f at c fresh rising event
   unfolding lapsed
   lapsed-due d = rw (lt-leb (length f) at in-file, ← e, d)
 
-  pub lapsed-guard : (counters : List ℕ) (b g : Bool) → w .due ≡ false → counters ≡ raised (c .counters) (c .state)
-      → b ≡ fallsBehind f (c .held) w → b ≡ true → g ≡ guardBehind f w counters
-      → not g ≡ lapsed f at c fresh rising event
-  unfolding lapsed
-  lapsed-guard counters b g d n p q r = rw (lt-leb (length f) at in-file, ← e, d, ← n, ← p, q, ← r)
+  module _ (g : Gained) (k : g ≡ cond (w .gathers) (gained f at (c .tallies) fresh rising event) (kept (c .tallies))) where
+    pub lapsed-guard : (counters : List ℕ) (b v : Bool) → w .due ≡ false → counters ≡ raised (c .counters) (c .state)
+        → b ≡ fallsBehind f (w .at) (c .held) (w .grows) g → b ≡ true → v ≡ guardBehind f w counters (g .tallies)
+        → not v ≡ lapsed f at c fresh rising event
+    unfolding lapsed
+    lapsed-guard counters b v d n p q r =
+        let i = gains-by f at c fresh rising event w g e k in rw (lt-leb (length f) at in-file, ← e, ← i, d, ← n, ← p, q, ← r)
 
-  pub lapsed-not : (b : Bool) → w .due ≡ false → b ≡ fallsBehind f (c .held) w → b ≡ false
-      → false ≡ lapsed f at c fresh rising event
-  unfolding lapsed
-  lapsed-not b d p q = rw (lt-leb (length f) at in-file, ← e, d, ← p, q)
+    pub lapsed-not : (b : Bool) → w .due ≡ false → b ≡ fallsBehind f (w .at) (c .held) (w .grows) g → b ≡ false
+        → false ≡ lapsed f at c fresh rising event
+    unfolding lapsed
+    lapsed-not b d p q = let i = gains-by f at c fresh rising event w g e k in rw (lt-leb (length f) at in-file, ← e, ← i, d, ← p, q)
 
 -- what marks a variable as growing: its mark before, or the field of its first BIND
 abbrev later : List Kind → Bool → Option ℕ → Bool
@@ -69,11 +72,11 @@ unfolding bound holding
 bound-marked w next v x r true e m = rw e (record { held-8 = m .held-8; grows-8 = m .grows-8 })
 bound-marked w next v x r false e m = rw e (record { held-8 = length-set (w .held) v true ∙ m .held-8; grows-8 = length-set (w .grows) v r ∙ m .grows-8 })
 
-module _ (f : List ℕ) (fieldKinds : List Kind) (fresh rising : List Bool) (mark : (g : ℕ) → getD rising g false ≡ rises fieldKinds g)
+module _ (f : List ℕ) (fieldKinds : List Kind) (rising : List Bool) (mark : (g : ℕ) → getD rising g false ≡ rises fieldKinds g)
     (prior event : List ℕ) (v : ℕ) (small : v < 8) where
   abbrev Grown : List Clause → Walked → Type 0
   Grown ks w =
-      getD ((walkOf f prior fresh rising event w ks) .grows) v false ≡ cond (getD (w .held) v false) (getD (w .grows) v false)
+      getD ((walkOf f prior rising event w ks) .grows) v false ≡ cond (getD (w .held) v false) (getD (w .grows) v false)
       (later fieldKinds (getD (w .grows) v false) (firstBind ks v))
 
   cond-same : (b g : Bool) → g ≡ cond b g g
@@ -81,7 +84,7 @@ module _ (f : List ℕ) (fieldKinds : List Kind) (fresh rising : List Bool) (mar
   cond-same false g = refl
 
   tested-grown : (ks : List Clause) (w : Walked) (next o x y : ℕ) (r : Bool) → Grown ks (tested w next o x y r)
-      → getD ((walkOf f prior fresh rising event (tested w next o x y r) ks) .grows) v false
+      → getD ((walkOf f prior rising event (tested w next o x y r) ks) .grows) v false
       ≡ cond (getD (w .held) v false) (getD (w .grows) v false) (later fieldKinds (getD (w .grows) v false) (firstBind ks v))
   unfolding tested
   tested-grown ks w next o x y r e = e
@@ -111,11 +114,11 @@ module _ (f : List ℕ) (fieldKinds : List Kind) (fresh rising : List Bool) (mar
       let d : getD (set (w .grows) u (getD rising g false)) v false ≡ getD (w .grows) v false = getD-set-other (w .grows) u v (getD rising g false) false ne in
       rw (e, q, a, d)
 
-  gained-grown : (ks : List Clause) (w : Walked) (next u x : ℕ) (r n : Bool) → Marked w → (Marked (gaining w next u x r n) → Grown ks (gaining w next u x r n))
-      → getD ((walkOf f prior fresh rising event (gaining w next u x r n) ks) .grows) v false
+  noted-grown : (ks : List Clause) (w : Walked) (next : ℕ) → Marked w → (Marked (noted w next) → Grown ks (noted w next))
+      → getD ((walkOf f prior rising event (noted w next) ks) .grows) v false
       ≡ cond (getD (w .held) v false) (getD (w .grows) v false) (later fieldKinds (getD (w .grows) v false) (firstBind ks v))
-  unfolding gaining
-  gained-grown ks w next u x r n m g = g (record { held-8 = m .held-8; grows-8 = m .grows-8 })
+  unfolding noted
+  noted-grown ks w next m g = g (record { held-8 = m .held-8; grows-8 = m .grows-8 })
 
   grown : (ks : List Clause) (w : Walked) → Marked w → Grown ks w
   grown [] w m = cond-same (getD (w .held) v false) (getD (w .grows) v false)
@@ -127,58 +130,7 @@ module _ (f : List ℕ) (fieldKinds : List Kind) (fresh rising : List Bool) (mar
   grown (BIND g u ∷ ks) w m =
       grown ks (bound w (w .at + 3) u (getD event g 0) (getD rising g false)) (bound-marked w _ _ _ _ (getD (w .held) u false) refl m)
       ∙ bound-marks ks w (w .at + 3) g u (getD event g 0) m (getD (w .held) u false) refl (eqb u v) refl
-  grown (GATHER g u ∷ ks) w m =
-      let n = getD fresh (u * 8 + g) false in
-      gained-grown ks w (w .at + 3) u (getD event g 0) (getD rising g false) n m
-      (grown ks (gaining w (w .at + 3) u (getD event g 0) (getD rising g false) n))
-
--- a mark behind a place that is set
-set-at : (l : List Bool) (u v : ℕ) (b : Bool) → v < length l → (t : Bool) → eqb u v ≡ t → getD (set l u b) v false ≡ cond t b (getD l v false)
-set-at l u v b h true q = let p : u ≡ v = eqb-true u v q in rw p (getD-set-same l v b false h)
-set-at l u v b h false q = getD-set-other l u v b false (λ r. eqb-false u v q (sym r))
-
--- the lists into which every field gathered is rising, and those into which none is gathered
-module _ (f prior : List ℕ) (fieldKinds : List Kind) (fresh rising : List Bool) (mark : (g : ℕ) → getD rising g false ≡ rises fieldKinds g) (event : List ℕ)
-    (v : ℕ) (small : v < 4) where
-  record Judged (ks : List Clause) (w r : Walked) : Type 0 where
-    all-rise : getD (r .rising) v false ≡ (getD (w .rising) v false && gathersRising fieldKinds ks v)
-    none-in : getD (r .unchanged) v false ≡ (getD (w .unchanged) v false && not (gathers ks v))
-
-  -- what a GATHER into list u does to v's marks
-  rise-more : (l : List Bool) (u : ℕ) (r q : Bool) → length l ≡ 4
-      → (getD (set l u (getD l u false && r)) v false && q) ≡ (getD l v false && (cond (eqb u v) r true && q))
-  rise-more l u r q h = rw (set-at l u v (getD l u false && r) (omega arith) (eqb u v) refl) (go (eqb u v) refl)
-    where
-      go : (t : Bool) → eqb u v ≡ t → (cond t (getD l u false && r) (getD l v false) && q) ≡ (getD l v false && (cond t r true && q))
-      go true e = let p : u ≡ v = eqb-true u v e in rw p (and-assoc (getD l v false) r q)
-      go false e = refl
-
-  none-more : (l : List Bool) (u : ℕ) (q : Bool) → length l ≡ 4
-      → (getD (set l u false) v false && not q) ≡ (getD l v false && not (eqb u v || q))
-  none-more l u q h = rw (set-at l u v false (omega arith) (eqb u v) refl) (go (eqb u v))
-    where
-      go : (t : Bool) → (cond t false (getD l v false) && not q) ≡ (getD l v false && not (t || q))
-      go true = sym (and-false (getD l v false) false refl)
-      go false = refl
-
-  judged : (ks : List Clause) (w : Walked) → length (w .rising) ≡ 4 → length (w .unchanged) ≡ 4 → Judged ks w (walkOf f prior fresh rising event w ks)
-  unfolding tested bound gaining
-  judged [] w a b = record { all-rise = and-end (getD (w .rising) v false); none-in = and-end (getD (w .unchanged) v false) }
-  judged (TEST g o y ∷ ks) w a b =
-      let i = judged ks (clauseOf f prior fresh rising event w (TEST g o y)) a b in record { all-rise = i .all-rise; none-in = i .none-in }
-  judged (TESTV g o u ∷ ks) w a b =
-      let i = judged ks (clauseOf f prior fresh rising event w (TESTV g o u)) a b in record { all-rise = i .all-rise; none-in = i .none-in }
-  judged (BIND g u ∷ ks) w a b =
-      let i = judged ks (clauseOf f prior fresh rising event w (BIND g u)) a b in record { all-rise = i .all-rise; none-in = i .none-in }
-  judged (GATHER g u ∷ ks) w a b =
-      let i = judged ks (clauseOf f prior fresh rising event w (GATHER g u)) (length-set (w .rising) u _ ∙ a) (length-set (w .unchanged) u false ∙ b) in
-      record {
-        all-rise =
-            i .all-rise
-            ∙ rise-more (w .rising) u (getD rising g false) (gathersRising fieldKinds ks v) a
-            ∙ ap (λ (r : Bool). getD (w .rising) v false && (cond (eqb u v) r true && gathersRising fieldKinds ks v)) (mark g);
-        none-in = i .none-in ∙ none-more (w .unchanged) u (gathers ks v) b;
-      }
+  grown (GATHER g u ∷ ks) w m = noted-grown ks w (w .at + 3) m (grown ks (noted w (w .at + 3)))
 
 held-first : (fieldKinds : List Kind) (b : Bool) (o : Option ℕ) → cond b b (later fieldKinds b o) ≡ (b || fieldRises fieldKinds o)
 held-first fieldKinds true o = refl
@@ -190,30 +142,30 @@ module _ (fields states : ℕ) (f : List ℕ) (at : ℕ) (s : Step) (h : StepAt 
     (k : Carries fields ls c event fresh) where
   -- the variables that the walk marks as growing are those that the definition calls rising
   walk-grows : (v : ℕ) → v < 8
-      → getD ((walked f at c fresh rising event) .grows) v false ≡ (isHeld (configOf ls c) v || fieldRises fieldKinds (firstBind (s .clauses) v))
+      → getD ((walked f at c rising event) .grows) v false ≡ (isHeld (configOf ls c) v || fieldRises fieldKinds (firstBind (s .clauses) v))
   unfolding begun
   walk-grows v small =
-      ap (λ (w : Walked). getD (w .grows) v false) (walked-encode fields states f at s h c fresh rising event)
-      ∙ grown f fieldKinds fresh rising mark (c .values) event v small (s .clauses) (begun at c) (record { held-8 = r .held-8; grows-8 = r .held-8 })
+      ap (λ (w : Walked). getD (w .grows) v false) (walked-encode fields states f at s h c rising event)
+      ∙ grown f fieldKinds rising mark (c .values) event v small (s .clauses) (begun at c) (record { held-8 = r .held-8; grows-8 = r .held-8 })
       ∙ held-first fieldKinds (getD (c .held) v false) (firstBind (s .clauses) v)
 
   -- and so for the lists
-  walk-judged : (v : ℕ) → v < 4
-      → (getD ((walked f at c fresh rising event) .rising) v false ≡ gathersRising fieldKinds (s .clauses) v)
-      × (getD ((walked f at c fresh rising event) .unchanged) v false ≡ not (gathers (s .clauses) v))
-  unfolding begun
-  walk-judged v small =
-      let j = judged f (c .values) fieldKinds fresh rising mark event v small (s .clauses) (begun at c) refl refl in
+  lists-judged : (v : ℕ) → v < 4
+      → (getD ((gained f at (c .tallies) fresh rising event) .rising) v false ≡ gathersRising fieldKinds (s .clauses) v)
+      × (getD ((gained f at (c .tallies) fresh rising event) .unchanged) v false ≡ not (gathers (s .clauses) v))
+  unfolding kept
+  lists-judged v small =
+      let j = judged f fieldKinds fresh rising mark event v small (s .clauses) (kept (c .tallies)) refl refl in
       let t = getD-replicate 4 v true false small in
-      rw (walked-encode fields states f at s h c fresh rising event) (
+      rw (gained-encode fields states f at s h (c .tallies) fresh rising event) (
         j .all-rise ∙ ap (λ b. b && gathersRising fieldKinds (s .clauses) v) t,
         j .none-in ∙ ap (λ b. b && not (gathers (s .clauses) v)) t,
       )
 
   -- the guard behind the walk is falling exactly where the step's guard is
   falls-encode : (g : Option Expr) (p : ℕ) → drop p f ≡ guardBytes g ++ h .after → All (Exists fields states) (guardCommands g) → GuardFits g
-      → let w = walked f at c fresh rising event in
-      fallsAt (leafMarked (falling (c .held) w)) (leafMarked (growing w)) f p ≡ guardFalls fieldKinds (configOf ls c) (s .clauses) g
+      → fallsBehind f p (c .held) ((walked f at c rising event) .grows) (gained f at (c .tallies) fresh rising event)
+      ≡ guardFalls fieldKinds (configOf ls c) (s .clauses) g
   unfolding fallsAt guardCommands
   falls-encode none p e x y =
       let b : getD f p 0 ≡ getD (h .after) 0 0 = first-byte f (h .after) p e in
@@ -221,13 +173,14 @@ module _ (fields states : ℕ) (f : List ℕ) (at : ℕ) (s : Step) (h : StepAt 
   falls-encode (some g) p e x y =
       let b : getD f p 0 ≡ 0x15 = first-byte f _ p e in
       let d : drop (p + 1) f ≡ encodeExpr g ++ h .after = drop-more f (0x15 ∷ []) (encodeExpr g ++ h .after) p e in
-      let w = walked f at c fresh rising event in
+      let w = walked f at c rising event in
+      let l = gained f at (c .tallies) fresh rising event in
       let ks = s .clauses in
-      let same : (v : ℕ) → v < 4 → getD (w .unchanged) v false ≡ not (gathers ks v) = λ v i. walk-judged v i .1 in
-      let up = marked-rises fieldKinds (configOf ls c) ks states (growing w) same walk-grows (λ v i. walk-judged v i .0) in
-      let down = marked-falls fieldKinds (configOf ls c) ks states (falling (c .held) w) same refl same in
+      let same : (v : ℕ) → v < 4 → getD (l .unchanged) v false ≡ not (gathers ks v) = λ v i. lists-judged v i .1 in
+      let up = marked-rises fieldKinds (configOf ls c) ks states (growing (w .grows) l) same walk-grows (λ v i. lists-judged v i .0) in
+      let down = marked-falls fieldKinds (configOf ls c) ks states (falling (c .held) l) same refl same in
       let j =
-      judge-encode fieldKinds (configOf ls c) ks (LeafExists states) (leafMarked (growing w)) (leafMarked (falling (c .held) w)) up down g 8 (x .0)
+      judge-encode fieldKinds (configOf ls c) ks (LeafExists states) (leafMarked (growing (w .grows) l)) (leafMarked (falling (c .held) l)) up down g 8 (x .0)
       (y .1) in
       rw (b, d, j .is-falling (h .after))
 
@@ -235,9 +188,9 @@ module _ (fields states : ℕ) (f : List ℕ) (at : ℕ) (s : Step) (h : StepAt 
   pub expired-encode : lapsed f at c fresh rising event ≡ expired fieldKinds (configOf ls c) s event
   unfolding lapsed expired leave begun
   expired-encode =
-      let a = walked-along fields states f at s h fieldKinds rising mark ls c fresh event in
+      let a = walked-along fields states f at s h fieldKinds rising mark ls c event in
       let g = guard-left fields states f at s h ls c fresh rising event r k (a .agrees) in
       let x = guard-exists fields states (s .clauses) (s .guard) (parts-exist fields states f at s h) in
-      let p = falls-encode (s .guard) ((walked f at c fresh rising event) .at) (walked-ends fields states f at s h c fresh rising event) x (h .fits .guard) in
+      let p = falls-encode (s .guard) ((walked f at c rising event) .at) (walked-ends fields states f at s h c rising event) x (h .fits .guard) in
       let i = lt-leb (length f) at (inside fields states f at s h) in
       rw (i, a .overdue, p, g)

@@ -14,6 +14,7 @@ use Rattle.event_log.specs.Log.{Kind}
 use Rattle.formula.specs.Formula.{Expr, Clause, Step, Formula}
 use Rattle.formula.specs.Encode.{CLAUSE, encodeExpr, encodeClause, encodeCommand, guardCommands, stepCommands}
 use Rattle.machine_code.specs.declared.Configuration.{Configuration}
+use Rattle.machine_code.specs.declared.Gained.{Gained}
 use Rattle.machine_code.specs.declared.Walked.{Walked}
 use Rattle.formula.specs.Lookup.{stepPlace}
 use Rattle.formula.specs.inner.StepBytes.{guardPlace}
@@ -25,15 +26,17 @@ use Rattle.machine.specs.inner.Valid.{Valid}
 use Rattle.machine.specs.inner.Along.{tallies, IsFresh}
 use Rattle.machine.specs.Expiry.{rises}
 use Rattle.guard_code.specs.inner.Bytes.{leafValue, guardAt}
-use Rattle.machine_code.specs.inner.Bytes.{walked, raised, leaving, guardBehind, fired, begun, isClause, configOf}
+use Rattle.machine_code.specs.inner.Bytes.{walked, kept, gained, raised, leaving, guardBehind, fired, begun, isClause, configOf}
 use Rattle.machine.proofs.Configurations.{counter-le-total, add-one-set}
 use Rattle.machine.proofs.Walk.{fires-walk}
 use Rattle.machine.proofs.Gathering.{length-gather-all}
 use Rattle.machine.proofs.Carried.{carried}
+use Rattle.runs.proofs.Moves.{and-both}
 use Rattle.guard_code.proofs.GuardOnBytes.{byte-inside, evaluate-encode}
 use Rattle.machine_code.proofs.ClausesOnBytes.{clause-low}
-use Rattle.machine_code.proofs.WalkOnBytes.{byte-from, first-byte, drop-more, walkOf, walk-encode, walk-at, walk-ends, walk-tallies, clauses-length}
+use Rattle.machine_code.proofs.WalkOnBytes.{byte-from, first-byte, drop-more, walkOf, walk-encode, walk-at, walk-ends, clauses-length}
 use Rattle.machine_code.proofs.WalkOnBytes.{Agrees, Along, along}
+use Rattle.machine_code.proofs.GainingOnBytes.{gains-by, gainAll, gain-encode, gain-tallies}
 
 pub raised-out : (counters : List ℕ) (s : ℕ) → length counters ≡ 16 → 16 ≤ s → counters ≡ raised counters s
 unfolding raised
@@ -49,16 +52,19 @@ unfolding fired
 fired-out f at c fresh event h = rw (le-leb (length f) at h)
 
 -- inside the file: the guard decides where every test passes
-module _ (f : List ℕ) (at : ℕ) (c : Configuration) (fresh : List Bool) (event : List ℕ) (w : Walked) (counters : List ℕ) (t : ℕ) (in-file : at < length f)
-    (walk : w ≡ walked f at c fresh (replicate 8 false) event) (raise : counters ≡ raised (c .counters) (c .state)) (target : t ≡ getD f (at + 1) 0) where
-  pub fired-guard : (b : Bool) → w .passes ≡ true → b ≡ guardBehind f w counters
-      → record { fires = b; config = leaving t w counters } ≡ fired f at c fresh event
+module _ (f : List ℕ) (at : ℕ) (c : Configuration) (fresh : List Bool) (event : List ℕ) (w : Walked) (in-file : at < length f)
+    (walk : w ≡ walked f at c (replicate 8 false) event) where
+  pub fired-failed : w .passes ≡ false → record { fires = false; config = c } ≡ fired f at c fresh event
   unfolding fired
-  fired-guard b h e = rw (lt-leb (length f) at in-file, ← walk, ← raise, ← target, h, e)
+  fired-failed h = rw (lt-leb (length f) at in-file, ← walk, h)
 
-  pub fired-failed : w .passes ≡ false → record { fires = false; config = leaving t w counters } ≡ fired f at c fresh event
+  pub fired-guard : (counters : List ℕ) (t : ℕ) (g : Gained) (b : Bool) → w .passes ≡ true → counters ≡ raised (c .counters) (c .state)
+      → t ≡ getD f (at + 1) 0 → g ≡ cond (w .gathers) (gained f at (c .tallies) fresh (replicate 8 false) event) (kept (c .tallies))
+      → b ≡ guardBehind f w counters (g .tallies) → record { fires = b; config = leaving t w counters (g .tallies) } ≡ fired f at c fresh event
   unfolding fired
-  fired-failed h = rw (lt-leb (length f) at in-file, ← walk, ← raise, ← target, h)
+  fired-guard counters t g b h raise target e q =
+      let p = gains-by f at c fresh (replicate 8 false) event w g walk e in
+      rw (lt-leb (length f) at in-file, ← walk, ← p, ← raise, ← target, h, q)
 
 -- a step's bytes, and those of its guard
 abbrev pub stepBytes : Step → List ℕ
@@ -156,27 +162,35 @@ module _ (fields states : ℕ) (f : List ℕ) (at : ℕ) (s : Step) (h : StepAt 
   parts-exist = h .exist .1
 
   -- the walk over the step's bytes is the walk over its clauses
-  pub walked-encode : (c : Configuration) (fresh rising : List Bool) (event : List ℕ)
-      → walked f at c fresh rising event ≡ walkOf f (c .values) fresh rising event (begun at c) (s .clauses)
+  pub walked-encode : (c : Configuration) (rising : List Bool) (event : List ℕ)
+      → walked f at c rising event ≡ walkOf f (c .values) rising event (begun at c) (s .clauses)
   unfolding walked begun
-  walked-encode c fresh rising event =
-      walk-encode f (c .values) fresh rising event fields states (suc (length f)) (begun at c) (s .clauses) (guardBytes (s .guard) ++ h .after) behind-step
+  walked-encode c rising event =
+      walk-encode f (c .values) rising event fields states (suc (length f)) (begun at c) (s .clauses) (guardBytes (s .guard) ++ h .after) behind-step
       (clauses-end (s .guard)) (clauses-exist fields states (s .clauses) (s .guard) parts-exist) clauses-fit
 
   -- and it ends where the guard begins
-  pub walked-ends : (c : Configuration) (fresh rising : List Bool) (event : List ℕ)
-      → drop ((walked f at c fresh rising event) .at) f ≡ guardBytes (s .guard) ++ h .after
+  pub walked-ends : (c : Configuration) (rising : List Bool) (event : List ℕ)
+      → drop ((walked f at c rising event) .at) f ≡ guardBytes (s .guard) ++ h .after
   unfolding begun
-  walked-ends c fresh rising event =
-      ap (λ (w : Walked). drop (w .at) f) (walked-encode c fresh rising event)
-      ∙ walk-ends f (c .values) fresh rising event (begun at c) (s .clauses) (guardBytes (s .guard) ++ h .after) behind-step
+  walked-ends c rising event =
+      ap (λ (w : Walked). drop (w .at) f) (walked-encode c rising event)
+      ∙ walk-ends f (c .values) rising event (begun at c) (s .clauses) (guardBytes (s .guard) ++ h .after) behind-step
 
   -- The walk finds the guard of step k of state i: it ends at the guard's place.
-  pub walked-place : (formula : Formula) (i k : ℕ) → at ≡ stepPlace formula i k → (c : Configuration) (fresh rising : List Bool) (event : List ℕ)
-      → (walked f at c fresh rising event) .at ≡ guardPlace formula i k s
+  pub walked-place : (formula : Formula) (i k : ℕ) → at ≡ stepPlace formula i k → (c : Configuration) (rising : List Bool) (event : List ℕ)
+      → (walked f at c rising event) .at ≡ guardPlace formula i k s
   unfolding begun guardPlace
-  walked-place formula i k e c fresh rising event =
-      omega (arith, e, ap (λ (w : Walked). w .at) (walked-encode c fresh rising event), walk-at f (c .values) fresh rising event (begun at c) (s .clauses))
+  walked-place formula i k e c rising event =
+      omega (arith, e, ap (λ (w : Walked). w .at) (walked-encode c rising event), walk-at f (c .values) rising event (begun at c) (s .clauses))
+
+  -- what its bytes gather is what its clauses do
+  pub gained-encode : (ts : List ℕ) (fresh rising : List Bool) (event : List ℕ)
+      → gained f at ts fresh rising event ≡ gainAll f fresh rising event (kept ts) (s .clauses)
+  unfolding gained
+  gained-encode ts fresh rising event =
+      gain-encode f fresh rising event fields states (suc (length f)) (at + 2) (kept ts) (s .clauses) (guardBytes (s .guard) ++ h .after) behind-step
+      (clauses-end (s .guard)) (clauses-exist fields states (s .clauses) (s .guard) parts-exist) clauses-fit
 
   -- the guard that begins at an offset has the value of the step's guard, in any configuration
   pub guard-encode : (g : Option Expr) (p : ℕ) (d : Config) → drop p f ≡ guardBytes g ++ h .after → length (d .lists) ≡ 4
@@ -194,58 +208,72 @@ module _ (fields states : ℕ) (f : List ℕ) (at : ℕ) (s : Step) (h : StepAt 
 
   -- the walk over the step's bytes binds, passes and is due as the definition says
   pub walked-along : (fieldKinds : List Kind) (rising : List Bool) → ((g : ℕ) → getD rising g false ≡ rises fieldKinds g)
-      → (ls : List (List ℕ)) (c : Configuration) (fresh : List Bool) (event : List ℕ)
-      → Along fieldKinds (configOf ls c) (configOf ls c) event (s .clauses) (begun at c) (walked f at c fresh rising event)
+      → (ls : List (List ℕ)) (c : Configuration) (event : List ℕ)
+      → Along fieldKinds (configOf ls c) (configOf ls c) event (s .clauses) (begun at c) (walked f at c rising event)
   unfolding begun
-  walked-along fieldKinds rising kept ls c fresh event =
-      rw (walked-encode c fresh rising event)
-      (along f fieldKinds fresh rising kept (configOf ls c) event (s .clauses) (configOf ls c) (begun at c) (record { held = refl; values = refl }))
+  walked-along fieldKinds rising kept ls c event =
+      rw (walked-encode c rising event)
+      (along f fieldKinds rising kept (configOf ls c) event (s .clauses) (configOf ls c) (begun at c) (record { held = refl; values = refl }))
 
-  -- and leaves the tallies of the lists with what the clauses gather
-  pub walked-tallies : (ls : List (List ℕ)) (c : Configuration) (fresh rising : List Bool) (event : List ℕ) → Carries fields ls c event fresh
-      → (walked f at c fresh rising event) .tallies ≡ tallies (gatherAll ls event (s .clauses))
-  unfolding begun
-  walked-tallies ls c fresh rising event k =
+  -- its bytes leave the tallies of the lists with what the clauses gather
+  pub gained-tallies : (ls : List (List ℕ)) (c : Configuration) (fresh rising : List Bool) (event : List ℕ) → Carries fields ls c event fresh
+      → (gained f at (c .tallies) fresh rising event) .tallies ≡ tallies (gatherAll ls event (s .clauses))
+  unfolding kept
+  gained-tallies ls c fresh rising event k =
       let x = clauses-exist fields states (s .clauses) (s .guard) parts-exist in
-      rw (walked-encode c fresh rising event, walk-tallies f (c .values) fresh rising event (s .clauses) (begun at c), k .tallied)
+      rw (gained-encode (c .tallies) fresh rising event, gain-tallies f fresh rising event (s .clauses) (kept (c .tallies)), k .tallied)
       (carried fields states event ls fresh (k .few) (k .new) (k .short) (s .clauses) (k .four) (h .fits .once) x)
 
-  -- the guard behind the walk, with what it has bound and gathered and the counters raised, is the step's guard in the configuration that it leaves
+  -- the guard behind the walk, with what it has bound, what is gathered and the counters raised, is the step's guard in the configuration that it leaves
   pub guard-left : (ls : List (List ℕ)) (c : Configuration) (fresh rising : List Bool) (event : List ℕ) → Ready c → Carries fields ls c event fresh
-      → Agrees (walked f at c fresh rising event) (bindAll (configOf ls c) event (s .clauses))
-      → guardBehind f (walked f at c fresh rising event) (raised (c .counters) (c .state)) ≡ guardHolds (leave (configOf ls c) s event) (s .guard)
+      → Agrees (walked f at c rising event) (bindAll (configOf ls c) event (s .clauses))
+      → guardBehind f (walked f at c rising event) (raised (c .counters) (c .state)) ((gained f at (c .tallies) fresh rising event) .tallies)
+      ≡ guardHolds (leave (configOf ls c) s event) (s .guard)
   unfolding leave
   guard-left ls c fresh rising event r k a =
       let x = guard-exists fields states (s .clauses) (s .guard) parts-exist in
       let n : length (gatherAll ls event (s .clauses)) ≡ 4 = length-gather-all ls event (s .clauses) ∙ k .four in
-      let w = walked f at c fresh rising event in
-      let g = guard-encode (s .guard) (w .at) (leave (configOf ls c) s event) (walked-ends c fresh rising event) n x (h .fits .guard) in
-      rw (a .values, raised-one c r, walked-tallies ls c fresh rising event k) g
+      let w = walked f at c rising event in
+      let g = guard-encode (s .guard) (w .at) (leave (configOf ls c) s event) (walked-ends c rising event) n x (h .fits .guard) in
+      rw (a .values, raised-one c r, gained-tallies ls c fresh rising event k) g
 
--- A step's bytes fire exactly where the step does, and leave the configuration that it leaves, with the tallies of its lists.
+-- A step's bytes fire exactly where the step does, and then leave the configuration that it leaves, with the tallies of its lists.
 pub record FiresAs (f : List ℕ) (at : ℕ) (ls : List (List ℕ)) (c : Configuration) (s : Step) (fresh : List Bool) (event : List ℕ) : Type 0 where
   pub fires-as : (fired f at c fresh event) .fires ≡ fires (configOf ls c) s event
-  pub leaves-as : configOf (gatherAll ls event (s .clauses)) ((fired f at c fresh event) .config) ≡ leave (configOf ls c) s event
-  pub tallied : (fired f at c fresh event) .config .tallies ≡ tallies (gatherAll ls event (s .clauses))
+  pub leaves-as : (fired f at c fresh event) .fires ≡ true
+      → configOf (gatherAll ls event (s .clauses)) ((fired f at c fresh event) .config) ≡ leave (configOf ls c) s event
+  pub tallied : (fired f at c fresh event) .fires ≡ true → (fired f at c fresh event) .config .tallies ≡ tallies (gatherAll ls event (s .clauses))
+
+-- one that fires passes
+fired-passes : (f : List ℕ) (at : ℕ) (c : Configuration) (fresh : List Bool) (event : List ℕ) → at < length f → (fired f at c fresh event) .fires ≡ true
+    → (walked f at c (replicate 8 false) event) .passes ≡ true
+unfolding fired
+fired-passes f at c fresh event h q = and-both _ _ (rw (lt-leb (length f) at h) at q) .0
 
 module _ (fields states : ℕ) (f : List ℕ) (at : ℕ) (ls : List (List ℕ)) (c : Configuration) (s : Step) (fresh : List Bool) (event : List ℕ)
     (h : StepAt fields states f at s) (r : Ready c) (k : Carries fields ls c event fresh) where
   pub fire-encode : FiresAs f at ls c s fresh event
   unfolding fired leave begun
   fire-encode =
-      let a = walked-along fields states f at s h [] (replicate 8 false) (λ g. replicate-at 8 g false) ls c fresh event in
+      let a = walked-along fields states f at s h [] (replicate 8 false) (λ g. replicate-at 8 g false) ls c event in
       let g = guard-left fields states f at s h ls c fresh (replicate 8 false) event r k (a .agrees) in
       let i = lt-leb (length f) at (inside fields states f at s h) in
       let t = target-byte fields states f at s h in
       let p = fires-walk (configOf ls c) s event (record { held-8 = r .held-8; values-8 = r .values-8 }) in
+      let l = fired-passes f at c fresh event (inside fields states f at s h) in
       record {
         fires-as = rw (i, g, a .passing, p);
-        leaves-as = rw (i, t, a .agrees .held, a .agrees .values, raised-one c r);
-        tallied = rw i (walked-tallies fields states f at s h ls c fresh (replicate 8 false) event k);
+        leaves-as = λ q. rw (i, l q, t, a .agrees .held, a .agrees .values, raised-one c r);
+        tallied = λ q. rw (i, l q) (gained-tallies fields states f at s h ls c fresh (replicate 8 false) event k);
       }
 
   -- The same as an answer: what the step leaves, if it fires.
   pub fire-answer : fire (configOf ls c) s event
       ≡ cond ((fired f at c fresh event) .fires) (some (configOf (gatherAll ls event (s .clauses)) ((fired f at c fresh event) .config))) none
   unfolding fire
-  fire-answer = rw (fire-encode .fires-as, fire-encode .leaves-as)
+  fire-answer = rw (← fire-encode .fires-as) (go ((fired f at c fresh event) .fires) refl)
+    where
+      go : (b : Bool) → (fired f at c fresh event) .fires ≡ b → cond b (some (leave (configOf ls c) s event)) none
+          ≡ cond b (some (configOf (gatherAll ls event (s .clauses)) ((fired f at c fresh event) .config))) none
+      go true q = ap some (sym (fire-encode .leaves-as q))
+      go false q = refl

@@ -3,6 +3,7 @@ pub mod ClausesOnBytes
 pub mod EventAlone
 pub mod FiringOnBytes
 pub mod WalkOnBytes
+pub mod GainingOnBytes
 pub mod ExpiryOnBytes
 pub mod StepsByNumber
 pub mod SameMachine

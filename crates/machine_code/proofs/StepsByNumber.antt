@@ -10,11 +10,13 @@ use lib.ListN.{length, getD, replicate, List·getD-eq-default}
 use lib.Dec.{eqb, ltb}
 use Rattle.base.proofs.Tests.{or-right}
 use Rattle.machine_code.specs.declared.Configuration.{Configuration}
+use Rattle.machine_code.specs.declared.Gained.{Gained}
 use Rattle.machine_code.specs.declared.Walked.{Walked}
-use Rattle.machine_code.specs.inner.Bytes.{isClause, walkFrom, begun, walked, raised, guardBehind, fired, lapsed, offsetOf, isStep, firesAt, expiresAt}
+use Rattle.machine_code.specs.inner.Bytes.{isClause, walkFrom, begun, walked, kept, gained, raised, guardBehind, fired, lapsed, offsetOf, isStep, firesAt, expiresAt}
 use Rattle.machine_code.specs.inner.Bytes.{lowestFrom, lowestOf, aliveBelow}
 use Rattle.machine_code.proofs.ClausesOnBytes.{Walking, walking-done}
 use Rattle.machine_code.proofs.EventAlone.{walk-fails}
+use Rattle.machine_code.proofs.GainingOnBytes.{gains-by}
 
 pub offset-over : (table : List ℕ) (s k : ℕ) → 8 ≤ k → 0 ≡ offsetOf table s k
 unfolding offsetOf
@@ -92,29 +94,32 @@ module _ (f table : List ℕ) (c : Configuration) (fresh : List Bool) (event : L
   unfolding firesAt
   fires-absent h = rw (← place, h)
 
-  module _ (there : isStep f at ≡ true) (v w : Walked) (from : v ≡ begun at c) (way : Walking f (c .values) fresh (replicate 8 false) event v w) where
+  module _ (there : isStep f at ≡ true) (v w : Walked) (from : v ≡ begun at c) (way : Walking f (c .values) (replicate 8 false) event v w) where
     abbrev whole : Walked
-    whole = walked f at c fresh (replicate 8 false) event
+    whole = walked f at c (replicate 8 false) event
 
-    fires-fired : firesAt f table c fresh event k ≡ (whole .passes && guardBehind f whole (raised (c .counters) (c .state)))
+    fires-fired : firesAt f table c fresh event k
+        ≡ (whole .passes && guardBehind f whole (raised (c .counters) (c .state)) ((gained f at (c .tallies) fresh (replicate 8 false) event) .tallies))
     unfolding firesAt fired
     fires-fired = rw (← place, there, lt-leb (length f) at (step-inside f at there))
 
-    ahead : whole ≡ walkFrom (way .left) f (c .values) fresh (replicate 8 false) event w
+    ahead : whole ≡ walkFrom (way .left) f (c .values) (replicate 8 false) event w
     unfolding walked
     ahead = rw (← from) (way .ahead)
 
     -- a test that fails
     pub fires-failed : w .passes ≡ false → firesAt f table c fresh event k ≡ false
-    fires-failed h = fires-fired ∙ rw (ahead, walk-fails f (c .values) fresh (replicate 8 false) event (way .left) w h)
+    fires-failed h = fires-fired ∙ rw (ahead, walk-fails f (c .values) (replicate 8 false) event (way .left) w h)
 
     -- every test passes, and the guard decides
-    pub fires-guard : (counters : List ℕ) (b g : Bool) → counters ≡ raised (c .counters) (c .state) → isClause (getD f (w .at) 0) ≡ false
-        → w .passes ≡ true → g ≡ guardBehind f w counters → g ≡ b → firesAt f table c fresh event k ≡ b
+    pub fires-guard : (counters : List ℕ) (d : Gained) (b g : Bool) → counters ≡ raised (c .counters) (c .state) → isClause (getD f (w .at) 0) ≡ false
+        → w .passes ≡ true → d ≡ cond (w .gathers) (gained f at (c .tallies) fresh (replicate 8 false) event) (kept (c .tallies))
+        → g ≡ guardBehind f w counters (d .tallies) → g ≡ b → firesAt f table c fresh event k ≡ b
     unfolding walked
-    fires-guard counters b g n stop h e q =
-        let d : w ≡ walked f at c fresh (replicate 8 false) event = rw (← from) (walking-done f (c .values) fresh (replicate 8 false) event v w way stop) in
-        fires-fired ∙ rw (← d, h, ← n, ← e) q
+    fires-guard counters d b g n stop h l e q =
+        let i : w ≡ walked f at c (replicate 8 false) event = rw (← from) (walking-done f (c .values) (replicate 8 false) event v w way stop) in
+        let p = gains-by f at c fresh (replicate 8 false) event w d i l in
+        fires-fired ∙ rw (← i, ← p, h, ← n, ← e) q
 
 -- a step is expired where it is not there, and else where it lapses
 module _ (f table : List ℕ) (c : Configuration) (fresh rises : List Bool) (latest : List ℕ) (k at : ℕ) (place : at ≡ offsetOf table (c .state) k) where

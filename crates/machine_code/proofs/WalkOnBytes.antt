@@ -1,5 +1,5 @@
 -- On a step's bytes, whatever follows them, the code's walk over the clauses is the definition's.
-use Prim.Native.Nat.{ℕ, zero, suc, _+_, _*_, _≤_}
+use Prim.Native.Nat.{ℕ, zero, suc, _+_, _≤_}
 use mathlib.Core.Path.{_≡_, refl, ap, sym, _∙_}
 use mathlib.Core.Bool.{Bool, true, false, _&&_, _||_, and-assoc, or-assoc}
 use mathlib.Core.List.{List, [], _∷_, _++_, append-assoc, flatMap}
@@ -20,9 +20,8 @@ use Rattle.machine.specs.Configuration.{Config}
 use Rattle.machine.specs.Firing.{holds, field, valueOf, hold, bindAll, passes}
 use Rattle.machine.specs.Expiry.{rises, missed, anyPastDue}
 use Rattle.machine.specs.inner.Walk.{walk}
-use Rattle.machine.specs.inner.Along.{carryAll}
-use Rattle.machine_code.specs.inner.Bytes.{holdsBy, missedBy, isClause, tested, holding, bound, gaining, clauseAt, walkFrom}
-use Rattle.machine_code.proofs.ClausesOnBytes.{clause-test, clause-testv, clause-gain, clause-bind, gather-in}
+use Rattle.machine_code.specs.inner.Bytes.{holdsBy, missedBy, isClause, widthOf, tested, holding, bound, noted, clauseAt, walkFrom}
+use Rattle.machine_code.proofs.ClausesOnBytes.{clause-test, clause-testv, clause-note, clause-bind}
 
 -- what stands behind an offset is read there
 pub byte-from : (f l : List ℕ) (at i : ℕ) → drop at f ≡ l → getD f (at + i) 0 ≡ getD l i 0
@@ -42,53 +41,59 @@ value-from f l at h =
 pub drop-more : (f xs ys : List ℕ) (at : ℕ) → drop at f ≡ xs ++ ys → drop (at + length xs) f ≡ ys
 drop-more f xs ys at h = sym (drop-drop (length xs) at f) ∙ ap (drop (length xs)) h ∙ drop-append-seam xs ys
 
-module _ (f prior : List ℕ) (fresh rising : List Bool) (event : List ℕ) where
+-- a clause's bytes begin with its command, and are as many as it says
+pub is-clause : (k : Clause) (l : List ℕ) → isClause (getD (encodeClause k ++ l) 0 0) ≡ true
+unfolding isClause encodeClause
+is-clause (TEST g o y) l = refl
+is-clause (TESTV g o u) l = refl
+is-clause (BIND g u) l = refl
+is-clause (GATHER g u) l = refl
+
+pub width-encode : (k : Clause) (l : List ℕ) → widthOf (getD (encodeClause k ++ l) 0 0) ≡ length (encodeClause k)
+unfolding widthOf encodeClause bytesOf
+width-encode (TEST g o y) l = refl
+width-encode (TESTV g o u) l = refl
+width-encode (BIND g u) l = refl
+width-encode (GATHER g u) l = refl
+
+module _ (f prior : List ℕ) (rising : List Bool) (event : List ℕ) where
   -- what a clause does to a walk
   abbrev pub clauseOf : Walked → Clause → Walked
   clauseOf w (TEST g o y) = tested w (w .at + 7) (operatorByte o) (getD event g 0) y (getD rising g false)
   clauseOf w (TESTV g o v) = tested w (w .at + 4) (operatorByte o) (getD event g 0) (getD prior v 0) (getD rising g false)
   clauseOf w (BIND g v) = bound w (w .at + 3) v (getD event g 0) (getD rising g false)
-  clauseOf w (GATHER g v) = gaining w (w .at + 3) v (getD event g 0) (getD rising g false) (getD fresh (v * 8 + g) false)
+  clauseOf w (GATHER g v) = noted w (w .at + 3)
 
   abbrev pub walkOf : Walked → List Clause → Walked
   walkOf w [] = w
   walkOf w (k ∷ ks) = walkOf (clauseOf w k) ks
 
   clause-encode : (m n : ℕ) (w : Walked) (k : Clause) (l : List ℕ) → drop (w .at) f ≡ encodeClause k ++ l → Exists m n (CLAUSE k)
-      → clauseAt f prior fresh rising event w ≡ clauseOf w k
+      → clauseAt f prior rising event w ≡ clauseOf w k
   unfolding encodeClause
   clause-encode m n w (TEST g o y) l h v =
       sym
-      (clause-test f prior fresh rising event w g (getD event g 0) (operatorByte o) 0x12 (getD rising g false)
+      (clause-test f prior rising event w g (getD event g 0) (operatorByte o) 0x12 (getD rising g false)
       (sym (byte-from f _ (w .at) 1 h)) refl refl (sym (byte-from f _ (w .at) 2 h)) (sym (first-byte f _ (w .at) h))
       y _ refl (sym (value-from f _ (w .at) h ∙ value-of-bytes (0x12 ∷ g ∷ operatorByte o ∷ []) y l (v .1))) refl)
   clause-encode m n w (TESTV g o u) l h v =
       sym
-      (clause-testv f prior fresh rising event w g (getD event g 0) (operatorByte o) 0x13 (getD rising g false)
+      (clause-testv f prior rising event w g (getD event g 0) (operatorByte o) 0x13 (getD rising g false)
       (sym (byte-from f _ (w .at) 1 h)) refl refl (sym (byte-from f _ (w .at) 2 h)) (sym (first-byte f _ (w .at) h))
       u _ _ refl (sym (byte-from f _ (w .at) 3 h)) refl refl)
   clause-encode m n w (BIND g u) l h v =
       sym
-      (clause-bind f prior fresh rising event w g (getD event g 0) u 0x14 (getD rising g false)
+      (clause-bind f prior rising event w g (getD event g 0) u 0x14 (getD rising g false)
       (sym (byte-from f _ (w .at) 1 h)) refl refl (sym (byte-from f _ (w .at) 2 h)) (sym (first-byte f _ (w .at) h))
       _ (λ e. omega arith) (λ e. omega arith) (λ e. omega arith) refl)
   clause-encode m n w (GATHER g u) l h v =
-      let x = getD event g 0 in
-      let r = getD rising g false in
       sym
-      (clause-gain f prior fresh rising event w g x (listByte u) 0x17 r
+      (clause-note f prior rising event w g (getD event g 0) (listByte u) 0x17 (getD rising g false)
       (sym (byte-from f _ (w .at) 1 h)) refl refl (sym (byte-from f _ (w .at) 2 h)) (sym (first-byte f _ (w .at) h))
-      _ refl (gather-in w (w .at + 3) g (listByte u) x u r fresh (omega arith) (v .1)))
-
-  is-clause : (k : Clause) (l : List ℕ) → isClause (getD (encodeClause k ++ l) 0 0) ≡ true
-  unfolding isClause encodeClause
-  is-clause (TEST g o y) l = refl
-  is-clause (TESTV g o u) l = refl
-  is-clause (BIND g u) l = refl
-  is-clause (GATHER g u) l = refl
+      _ refl refl)
 
   clause-at : (w : Walked) (k : Clause) → (clauseOf w k) .at ≡ w .at + length (encodeClause k)
-  unfolding tested bound gaining encodeClause bytesOf
+  unfolding tested bound noted encodeClause bytesOf
   clause-at w (TEST g o y) = refl
   clause-at w (TESTV g o u) = refl
   clause-at w (BIND g u) = refl
@@ -97,7 +102,7 @@ module _ (f prior : List ℕ) (fresh rising : List Bool) (event : List ℕ) wher
   -- the walk over a step's clauses, up to a byte that is no clause's command
   pub walk-encode : (m n : ℕ) (fuel : ℕ) (w : Walked) (ks : List Clause) (l : List ℕ) → drop (w .at) f ≡ flatMap encodeClause ks ++ l
       → isClause (getD l 0 0) ≡ false
-      → All (λ k. Exists m n (CLAUSE k)) ks → length ks ≤ fuel → walkFrom fuel f prior fresh rising event w ≡ walkOf w ks
+      → All (λ k. Exists m n (CLAUSE k)) ks → length ks ≤ fuel → walkFrom fuel f prior rising event w ≡ walkOf w ks
   unfolding walkFrom flatMap
   walk-encode m n zero w [] l h stop v k = refl
   walk-encode m n (suc fuel) w [] l h stop v k = rw (first-byte f l (w .at) h, stop)
@@ -118,19 +123,6 @@ module _ (f prior : List ℕ) (fresh rising : List Bool) (event : List ℕ) wher
   -- where the guard begins
   pub walk-ends : (w : Walked) (ks : List Clause) (l : List ℕ) → drop (w .at) f ≡ flatMap encodeClause ks ++ l → drop ((walkOf w ks) .at) f ≡ l
   walk-ends w ks l h = ap (λ i. drop i f) (walk-at w ks) ∙ drop-more f (flatMap encodeClause ks) l (w .at) h
-
--- it carries the tallies over the clauses
-pub walk-tallies : (f prior : List ℕ) (fresh rising : List Bool) (event : List ℕ) (ks : List Clause) (w : Walked)
-    → (walkOf f prior fresh rising event w ks) .tallies ≡ carryAll fresh event (w .tallies) ks
-unfolding tested bound gaining
-walk-tallies f prior fresh rising event [] w = refl
-walk-tallies f prior fresh rising event (TEST g o y ∷ ks) w =
-    walk-tallies f prior fresh rising event ks (clauseOf f prior fresh rising event w (TEST g o y))
-walk-tallies f prior fresh rising event (TESTV g o u ∷ ks) w =
-    walk-tallies f prior fresh rising event ks (clauseOf f prior fresh rising event w (TESTV g o u))
-walk-tallies f prior fresh rising event (BIND g u ∷ ks) w = walk-tallies f prior fresh rising event ks (clauseOf f prior fresh rising event w (BIND g u))
-walk-tallies f prior fresh rising event (GATHER g u ∷ ks) w =
-    walk-tallies f prior fresh rising event ks (clauseOf f prior fresh rising event w (GATHER g u))
 
 -- no clause is empty
 pub clauses-length : (ks : List Clause) → length ks ≤ length (flatMap encodeClause ks)
@@ -193,7 +185,7 @@ pub record Along (fields : List Kind) (c d : Config) (event : Values) (ks : List
   pub passing : r .passes ≡ (w .passes && walk c d event ks)
   pub overdue : r .due ≡ (w .due || anyPastDue fields c event ks)
 
-module _ (f : List ℕ) (fields : List Kind) (fresh rising : List Bool) (kept : (g : ℕ) → getD rising g false ≡ rises fields g) (c : Config)
+module _ (f : List ℕ) (fields : List Kind) (rising : List Bool) (kept : (g : ℕ) → getD rising g false ≡ rises fields g) (c : Config)
     (event : Values) where
   tested-agrees : (w : Walked) (d : Config) (next o x y : ℕ) (r : Bool) → Agrees w d → Agrees (tested w next o x y r) d
   unfolding tested
@@ -224,12 +216,12 @@ module _ (f : List ℕ) (fields : List Kind) (fresh rising : List Bool) (kept : 
   unfolding bound
   bound-due w next v x r t = rw (holding-due w v x r (getD (w .held) v false) refl)
 
-  gaining-agrees : (w : Walked) (d : Config) (next v x : ℕ) (r n : Bool) → Agrees w d → Agrees (gaining w next v x r n) d
-  unfolding gaining
-  gaining-agrees w d next v x r n a = record { held = a .held; values = a .values }
+  noted-agrees : (w : Walked) (d : Config) (next : ℕ) → Agrees w d → Agrees (noted w next) d
+  unfolding noted
+  noted-agrees w d next a = record { held = a .held; values = a .values }
 
-  pub along : (ks : List Clause) (d : Config) (w : Walked) → Agrees w d → Along fields c d event ks w (walkOf f (c .values) fresh rising event w ks)
-  unfolding gaining
+  pub along : (ks : List Clause) (d : Config) (w : Walked) → Agrees w d → Along fields c d event ks w (walkOf f (c .values) rising event w ks)
+  unfolding noted
   along [] d w a = record { agrees = a; passing = and-end (w .passes); overdue = or-end (w .due) }
   along (TEST g o y ∷ ks) d w a =
       let i = along ks d (tested w (w .at + 7) (operatorByte o) (getD event g 0) y (getD rising g false)) (tested-agrees w d _ _ _ _ _ a) in
@@ -255,8 +247,5 @@ module _ (f : List ℕ) (fields : List Kind) (fresh rising : List Bool) (kept : 
         overdue = i .overdue ∙ bound-due w (w .at + 3) u (getD event g 0) (getD rising g false) (anyPastDue fields c event ks);
       }
   along (GATHER g u ∷ ks) d w a =
-      let x = getD event g 0 in
-      let r = getD rising g false in
-      let n = getD fresh (u * 8 + g) false in
-      let i = along ks d (gaining w (w .at + 3) u x r n) (gaining-agrees w d (w .at + 3) u x r n a) in
+      let i = along ks d (noted w (w .at + 3)) (noted-agrees w d (w .at + 3) a) in
       record { agrees = i .agrees; passing = i .passing; overdue = i .overdue }

@@ -1,16 +1,13 @@
 // A step's clauses, walked front to back.
 use crate::Configuration;
 use crate::Walked;
-use guard_code::guard::difference;
-use guard_code::guard::sum;
 use guard_code::guard::value_of;
 use guard_code::trends::mark_of;
 ghost use mathlib.Core.Path.{_≡_};
 ghost use mathlib.Core.Bool.{false, _||_};
 ghost use Prim.Native.Nat.{_<_, _+_, _^_};
 ghost use lib.ListN.{getD, length};
-ghost use Rattle.machine.specs.inner.Along.{tallyAdd};
-ghost use Rattle.machine_code.specs.inner.Bytes.{holdsBy, missedBy, isClause, tested, holding, bound, gained, clauseAt, begun, walked};
+ghost use Rattle.machine_code.specs.inner.Bytes.{holdsBy, missedBy, isClause, tested, holding, bound, noted, clauseAt, begun, walked};
 
 // Either of two tests.
 fn either(a: bool, b: bool) -> bool
@@ -84,56 +81,20 @@ fn bind(w: Walked, next: usize, v: u32, x: u32, rises: bool) -> Walked
     then
 }
 
-// The tallies with x added to list i; `new` says that no value of the list equals x.
-fn tally_add(tallies: [u32; 12], i: usize, x: u32, new: bool) -> [u32; 12]
-    requires { ⌜ i < 4 ⌝ }
-    ensures { λ r. ⌜ r ≡ tallyAdd tallies i x new ⌝ }
-{
-    let mut then = tallies;
-    then[i] = sum(tallies[i], x);
-    then[4 + i] = sum(tallies[4 + i], 1);
-    then[8 + i] = sum(tallies[8 + i], base::bit_of(new));
-    then
-}
-
-// A GATHER of a field: its list, written 8 + i, gains the field's value. `fresh` says at i * 8 + field that no value of list i equals it.
-fn gather(
-    w: Walked,
-    next: usize,
-    field: u32,
-    operand: u32,
-    x: u32,
-    rises: bool,
-    fresh: [bool; 32],
-) -> Walked
-    requires { ⌜ field < 256 ⌝ }
-    ensures { λ r. ⌜ r ≡ gained w next field operand x rises fresh ⌝ }
+// A GATHER: what it adds to its list is not the walk's to know.
+fn note(w: Walked, next: usize) -> Walked
+    ensures { λ r. ⌜ r ≡ noted w next ⌝ }
 {
     let mut then = w;
     then.at = next;
-    let list = difference(operand, 8);
-    if 4 <= list {
-        return then;
-    }
-    let i = list as usize;
-    let tallies = w.tallies;
-    then.tallies = tally_add(tallies, i, x, mark_of(&fresh, list * 8 + field));
-    then.rising[i] = base::both(w.rising[i], rises);
-    then.unchanged[i] = false;
+    then.gathers = true;
     then
 }
 
 // The clause where the walk stands.
-pub fn clause(
-    f: &[u8],
-    w: Walked,
-    prior: [u32; 8],
-    fresh: [bool; 32],
-    rises: [bool; 8],
-    event: [u32; 8],
-) -> Walked
+pub fn clause(f: &[u8], w: Walked, prior: [u32; 8], rises: [bool; 8], event: [u32; 8]) -> Walked
     requires { ⌜ w .at < length (now f) ⌝ }
-    ensures { λ r. ⌜ r ≡ clauseAt (now (f .entry)) prior fresh rises event w ⌝ }
+    ensures { λ r. ⌜ r ≡ clauseAt (now (f .entry)) prior rises event w ⌝ }
 {
     let at = w.at;
     let field = base::byte_at(f, at + 1);
@@ -151,7 +112,7 @@ pub fn clause(
             value_of(&prior, base::byte_at(f, at + 3)),
             rising,
         ),
-        0x17 => gather(w, at + 3, field, operand, x, rising, fresh),
+        0x17 => note(w, at + 3),
         _ => bind(w, at + 3, operand, x, rising),
     }
 }
@@ -175,36 +136,26 @@ pub fn begin(at: usize, c: Configuration) -> Walked
 {
     let held = c.held;
     let values = c.values;
-    let tallies = c.tallies;
     Walked {
         at: at + 2,
         passes: true,
         due: false,
+        gathers: false,
         held,
         values,
         grows: held,
-        tallies,
-        rising: [true; 4],
-        unchanged: [true; 4],
     }
 }
 
 // The clauses of the STEP at an offset.
-pub fn walk(
-    f: &[u8],
-    at: usize,
-    c: Configuration,
-    fresh: [bool; 32],
-    rises: [bool; 8],
-    event: [u32; 8],
-) -> Walked
+pub fn walk(f: &[u8], at: usize, c: Configuration, rises: [bool; 8], event: [u32; 8]) -> Walked
     requires { ⌜ at < length (now f) ⌝ }
-    ensures { λ r. ⌜ r ≡ walked (now (f .entry)) at c fresh rises event ⌝ }
+    ensures { λ r. ⌜ r ≡ walked (now (f .entry)) at c rises event ⌝ }
 {
     let prior = c.values;
     let mut w = begin(at, c);
     while is_clause(f, w.at) {
-        w = clause(f, w, prior, fresh, rises, event);
+        w = clause(f, w, prior, rises, event);
     }
     w
 }

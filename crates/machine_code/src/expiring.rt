@@ -1,8 +1,9 @@
 // Whether a step is expired (the paper's hopeless) after an event.
 use crate::Configuration;
-use crate::Walked;
+use crate::Gained;
 use crate::clauses::walk;
 use crate::firing::raise;
+use crate::gaining::gains;
 use event_log::Latest;
 use guard_code::Marks;
 use guard_code::guard::guard_holds;
@@ -10,13 +11,12 @@ use guard_code::trends::guard_falls;
 ghost use mathlib.Core.Path.{_≡_};
 ghost use Rattle.machine_code.specs.inner.Bytes.{fallsBehind, lapsed};
 
-// Whether the guard behind a walk is falling, given the variables held before it.
-fn falls_behind(f: &[u8], held: [bool; 8], w: Walked) -> bool
-    ensures { λ r. ⌜ r ≡ fallsBehind (now (f .entry)) held w ⌝ }
+// Whether the guard at a place is falling, given the variables held before the step, those that grow, and what it gathers.
+fn falls_behind(f: &[u8], at: usize, held: [bool; 8], grows: [bool; 8], g: Gained) -> bool
+    ensures { λ r. ⌜ r ≡ fallsBehind (now (f .entry)) at held grows g ⌝ }
 {
-    let grows = w.grows;
-    let rising = w.rising;
-    let unchanged = w.unchanged;
+    let rising = g.rising;
+    let unchanged = g.unchanged;
     let falling = Marks {
         variables: held,
         sums: unchanged,
@@ -27,7 +27,7 @@ fn falls_behind(f: &[u8], held: [bool; 8], w: Walked) -> bool
         sums: rising,
         differents: unchanged,
     };
-    guard_falls(f, w.at, falling, growing)
+    guard_falls(f, at, falling, growing)
 }
 
 // Whether the STEP at an offset is expired by these values; `rises` marks the rising fields.
@@ -45,14 +45,17 @@ pub fn expired(
         return true;
     }
     let fields = latest.values;
-    let w = walk(f, at, c, fresh, rises, fields);
+    let w = walk(f, at, c, rises, fields);
     if w.due {
         return true;
     }
+    let before = c.tallies;
+    let g = gains(f, at, w.gathers, before, fresh, rises, fields);
     let held = c.held;
-    if falls_behind(f, held, w) {
+    let grows = w.grows;
+    if falls_behind(f, w.at, held, grows, g) {
         let values = w.values;
-        let tallies = w.tallies;
+        let tallies = g.tallies;
         let old = c.counters;
         let counters = raise(old, c.state);
         return !guard_holds(f, w.at, values, counters, tallies);

@@ -2,6 +2,7 @@
 use crate::Configuration;
 use crate::Fired;
 use crate::clauses::walk;
+use crate::gaining::gains;
 use event_log::Event;
 use guard_code::guard::guard_holds;
 use guard_code::guard::sum;
@@ -33,10 +34,18 @@ pub fn fire(f: &[u8], at: usize, c: Configuration, fresh: [bool; 32], event: Eve
     }
     let target = base::byte_at(f, at + 1);
     let fields = event.values;
-    let w = walk(f, at, c, fresh, [false; 8], fields);
+    let w = walk(f, at, c, [false; 8], fields);
+    if !w.passes {
+        return Fired {
+            fires: false,
+            config: c,
+        };
+    }
     let held = w.held;
     let values = w.values;
-    let tallies = w.tallies;
+    let before = c.tallies;
+    let g = gains(f, at, w.gathers, before, fresh, [false; 8], fields);
+    let tallies = g.tallies;
     let old = c.counters;
     let counters = raise(old, c.state);
     let config = Configuration {
@@ -46,14 +55,8 @@ pub fn fire(f: &[u8], at: usize, c: Configuration, fresh: [bool; 32], event: Eve
         counters,
         tallies,
     };
-    if w.passes {
-        return Fired {
-            fires: guard_holds(f, w.at, values, counters, tallies),
-            config,
-        };
-    }
     Fired {
-        fires: false,
+        fires: guard_holds(f, w.at, values, counters, tallies),
         config,
     }
 }

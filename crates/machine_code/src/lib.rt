@@ -2,6 +2,7 @@
 mod clauses;
 pub mod expiring;
 pub mod firing;
+mod gaining;
 pub mod marks;
 pub mod steps;
 
@@ -15,16 +16,22 @@ pub struct Configuration {
     pub tallies: [u32; 12],
 }
 
-// A walk over a step's clauses: where it stands, whether every clause so far passes, whether one is past due, the variables
-// held so far with their values, and those whose value only grows: held before the step, or first bound to a rising field; the
-// tallies so far, the lists into which every field gathered so far is rising, and those into which none was gathered.
+// A walk over a step's clauses: where it stands, whether every clause so far passes, whether one is past due, whether one is a
+// GATHER, the variables held so far with their values, and those whose value only grows: held before the step, or first bound
+// to a rising field.
 struct Walked {
     at: usize,
     passes: bool,
     due: bool,
+    gathers: bool,
     held: [bool; 8],
     values: [u32; 8],
     grows: [bool; 8],
+}
+
+// What a step's GATHERs leave: the tallies, the lists into which every field gathered is rising, and those into which none was
+// gathered.
+struct Gained {
     tallies: [u32; 12],
     rising: [bool; 4],
     unchanged: [bool; 4],

@@ -6,7 +6,8 @@ use guard_code::trends::mark_of;
 ghost use mathlib.Core.Path.{_≡_};
 ghost use Prim.Native.Nat.{_≤_, _+_};
 ghost use lib.ListN.{length};
-ghost use Rattle.machine_code.specs.inner.Marks.{BarredIs, DueIs, widthOf, failsAt, missesAt};
+ghost use Rattle.machine_code.specs.inner.Bytes.{widthOf};
+ghost use Rattle.machine_code.specs.inner.Marks.{BarredIs, DueIs, failsAt, missesAt};
 
 // The bytes of a clause, by its command; 0 for what is no clause.
 pub fn width(command: u32) -> usize

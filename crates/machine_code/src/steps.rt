@@ -5,6 +5,7 @@ use crate::clauses::clause;
 use crate::clauses::is_clause;
 use crate::expiring::expired;
 use crate::firing::raise;
+use crate::gaining::gains;
 use event_log::Event;
 use event_log::Latest;
 use guard_code::guard::guard_holds;
@@ -41,6 +42,7 @@ pub fn lowest(f: &[u8], table: &[usize], c: Configuration, fresh: [bool; 32], ev
 {
     let fields = event.values;
     let prior = c.values;
+    let before = c.tallies;
     let old = c.counters;
     let counters = raise(old, c.state);
     let mut next: usize = 0;
@@ -56,13 +58,14 @@ pub fn lowest(f: &[u8], table: &[usize], c: Configuration, fresh: [bool; 32], ev
         }
         let mut w = begin(at, c);
         while is_clause(f, w.at) {
-            w = clause(f, w, prior, fresh, [false; 8], fields);
+            w = clause(f, w, prior, [false; 8], fields);
             if !w.passes {
                 continue 'steps;
             }
         }
         let values = w.values;
-        let tallies = w.tallies;
+        let g = gains(f, at, w.gathers, before, fresh, [false; 8], fields);
+        let tallies = g.tallies;
         if guard_holds(f, w.at, values, counters, tallies) {
             break 'steps k;
         }

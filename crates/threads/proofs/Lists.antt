@@ -8,7 +8,7 @@ use lib.ListN.{length, getD, drop, take, replicate, length-drop}
 use lib.Seq.{getD-drop, getD-append-add, ext-getD, length-take-le}
 use lib.Dec.{eqb}
 use borrow.Author.Tests.{eqb-true, eqb-false}
-use Rattle.base.specs.Lists.{All}
+use Rattle.base.specs.Lists.{All, sameList}
 use Rattle.event_log.specs.Log.{Values, Log}
 use Rattle.event_log.proofs.LastSeen.{length-event}
 use Rattle.formula.specs.Formula.{Formula}
@@ -97,6 +97,33 @@ empty-next ts v before here u h = go (eqb (4 + u) v) refl
     go : (b : Bool) → eqb (4 + u) v ≡ b → getD ts (4 + u) 0 ≡ 0
     go true e = ap (λ i. getD ts i 0) (eqb-true (4 + u) v e) ∙ here
     go false e = let ne = eqb-false (4 + u) v e in before u (omega arith)
+
+-- four lists without values
+empties : (ms : List (List ℕ)) → length ms ≡ 4 → ((v : ℕ) → v < 4 → length (listOf ms v) ≡ 0) → ms ≡ replicate 4 []
+empties [] h k = absurd (omega arith)
+empties (a ∷ []) h k = absurd (omega arith)
+empties (a ∷ b ∷ []) h k = absurd (omega arith)
+empties (a ∷ b ∷ c ∷ []) h k = absurd (omega arith)
+empties (a ∷ b ∷ c ∷ d ∷ e ∷ ms) h k = absurd (omega arith)
+empties (a ∷ b ∷ c ∷ d ∷ []) h k = rw (nil a (k 0 (omega arith)), nil b (k 1 (omega arith)), nil c (k 2 (omega arith)), nil d (k 3 (omega arith)))
+  where
+    nil : (l : List ℕ) → length l ≡ 0 → l ≡ []
+    nil [] h = refl
+    nil (x ∷ l) h = absurd (omega arith)
+
+-- a thread whose tallies say so has gathered nothing
+pub nothing-in : (g : Log) (fm : Formula) (t : Thread) → Fit g fm t → ((v : ℕ) → v < 4 → getD (t .config .tallies) (4 + v) 0 ≡ 0)
+    → gathered g fm (trailOf t) ≡ replicate 4 []
+nothing-in g fm t w h =
+    empties (gathered g fm (trailOf t)) (gathered-4 g fm (trailOf t))
+    (λ v k.
+    sym (length-at (gathered g fm (trailOf t)) (gathered-4 g fm (trailOf t)) v k) ∙ ap (λ (x : List ℕ). getD x (4 + v) 0) (sym (w .tallies-are)) ∙ h v k)
+
+-- two such threads have gathered the same
+pub same-nothing : (g : Log) (fm : Formula) (a b : Thread) → Fit g fm a → Fit g fm b → ((v : ℕ) → v < 4 → getD (a .config .tallies) (4 + v) 0 ≡ 0)
+    → ((v : ℕ) → v < 4 → getD (b .config .tallies) (4 + v) 0 ≡ 0)
+    → true ≡ sameList (sameList eqb) (gathered g fm (trailOf a)) (gathered g fm (trailOf b))
+same-nothing g fm a b v w h k = rw (nothing-in g fm a v h, nothing-in g fm b w k)
 
 module _ (g : Log) (fm : Formula) {l places : List ℕ} (f table : List ℕ) (rules : Rules) (m : Moment) (s : Scene g fm l places f table rules m) (t : Thread)
     (w : Fit g fm t) where

@@ -104,7 +104,8 @@ module _ (g : Log) (fm : Formula) {l places : List ℕ} (f table : List ℕ) (ru
       (event-fields g fm f (stepTable fm) rules (s .setting) m (s .loads)) in
       subst (Lowest (λ k. isFired (fireAt g fm (conf g fm t) (m .number) k)))
       (sym
-      (lowest-same (firesAt f table (t .config) fresh (m .event .values)) (firesAt f (stepTable fm) (t .config) fresh (m .event .values)) 0 8 refl (fires-same fresh)))
+      (lowest-same (firesAt f table (t .config) fresh (m .event .values)) (firesAt f (stepTable fm) (t .config) fresh (m .event .values))
+      0 8 refl (fires-same fresh)))
       low
 
   -- some step is not expired by it exactly where the machine has one

@@ -2,6 +2,7 @@
 use crate::Moment;
 use crate::Move;
 use crate::Rules;
+use crate::gathered::fresh_at;
 use slots::Thread;
 ghost use Rattle.threads.specs.inner.Calls.{EndsIs, FiresIs, LowestIs, HopefulIs};
 
@@ -39,10 +40,11 @@ pub fn fires_at(
     }
     let event = moment.event;
     let values = event.values;
-    let fresh = crate::gathered::fresh_at(l, places, f, table, rules, t, values);
+    let tallies = before.tallies;
+    let trail = t.trail;
+    let fresh = fresh_at(l, places, f, table, rules, tallies, trail, t.steps, values);
     let fired = machine_code::firing::fire(f, at, before, fresh, event);
     let config = fired.config;
-    let trail = t.trail;
     let thread = Thread {
         config,
         steps: t.steps,
@@ -69,7 +71,9 @@ pub fn lowest_at(
     let config = t.config;
     let event = moment.event;
     let values = event.values;
-    let fresh = crate::gathered::fresh_at(l, places, f, table, rules, t, values);
+    let tallies = config.tallies;
+    let trail = t.trail;
+    let fresh = fresh_at(l, places, f, table, rules, tallies, trail, t.steps, values);
     let k = machine_code::steps::lowest(f, table, config, fresh, event);
     k as u32
 }
@@ -93,6 +97,8 @@ pub fn hopeful_at(
     let rises = rules.rises;
     let latest = moment.latest;
     let values = latest.values;
-    let fresh = crate::gathered::fresh_at(l, places, f, table, rules, t, values);
+    let tallies = config.tallies;
+    let trail = t.trail;
+    let fresh = fresh_at(l, places, f, table, rules, tallies, trail, t.steps, values);
     machine_code::steps::hopeful(f, &table[128..], config, fresh, rises, latest)
 }

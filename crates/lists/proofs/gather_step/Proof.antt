@@ -4,7 +4,7 @@ use mathlib.Core.Path.{_≡_, sym, ap, _∙_, subst}
 use Prim.Native.Nat.{_+_, _-_}
 use lib.ListN.{length, getD}
 use native.Mathlib.Omega.{arith}
-use Rattle.machine_code.specs.inner.Marks.{widthOf}
+use Rattle.machine_code.specs.inner.Bytes.{widthOf}
 use Rattle.machine_code.proofs.EventAlone.{width-most}
 use Rattle.lists.specs.inner.Words.{gatherStep}
 use Rattle.lists.proofs.Steps.{Left, left-start, left-done, left-end, left-next}

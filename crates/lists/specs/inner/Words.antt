@@ -7,8 +7,7 @@ use lib.ListN.{length, getD, set}
 use lib.Dec.{ltb, leb, eqb}
 use Rattle.event_log.specs.inner.Loading.{loadedAt}
 use Rattle.machine.specs.Configuration.{listOf}
-use Rattle.machine_code.specs.inner.Bytes.{offsetOf}
-use Rattle.machine_code.specs.inner.Marks.{widthOf}
+use Rattle.machine_code.specs.inner.Bytes.{widthOf, offsetOf}
 
 -- the words are those of the lists: value i of list v at v * 32 + i, 0 where it has none, and the number of its values at 128 + v
 pub record Holds (ls : List (List ℕ)) (l : List ℕ) : Type 0 where

@@ -7,6 +7,7 @@ use lib.Dec.{ltb, leb, eqb}
 use Rattle.base.specs.Value.{valueAt}
 use Rattle.machine_code.specs.declared.Configuration.{Configuration}
 use Rattle.machine_code.specs.declared.Fired.{Fired}
+use Rattle.machine_code.specs.declared.Gained.{Gained}
 use Rattle.machine_code.specs.declared.Walked.{Walked}
 use Rattle.machine.specs.Configuration.{Config}
 use Rattle.machine.specs.inner.Along.{tallyAdd}
@@ -25,18 +26,20 @@ missedBy o x y = cond (eqb o 2) (not (ltb x y)) (cond (eqb o 4) (not (leb x y)) 
 unfoldable pub isClause : ℕ → Bool
 isClause c = cond (eqb c 0x17) true (cond (ltb c 0x12) false (ltb c 0x15))
 
+-- the bytes of a clause, by its command; 0 for what is no clause
+unfoldable pub widthOf : ℕ → ℕ
+widthOf c = cond (eqb c 0x12) 7 (cond (eqb c 0x13) 4 (cond (eqb c 0x17) 3 (cond (eqb c 0x14) 3 0)))
+
 -- a TEST or TESTV of a field's value x against y; `rises` says whether the field does
 unfoldable pub tested : Walked → ℕ → ℕ → ℕ → ℕ → Bool → Walked
 tested w next o x y rises = record {
   at = next;
   passes = w .passes && holdsBy o x y;
   due = w .due || (rises && missedBy o x y);
+  gathers = w .gathers;
   held = w .held;
   values = w .values;
   grows = w .grows;
-  tallies = w .tallies;
-  rising = w .rising;
-  unchanged = w .unchanged;
 }
 
 -- variable v holds x, unless it is held already
@@ -47,12 +50,10 @@ holding w v x rises =
       at = w .at;
       passes = w .passes;
       due = w .due;
+      gathers = w .gathers;
       held = set (w .held) v true;
       values = set (w .values) v x;
       grows = set (w .grows) v rises;
-      tallies = w .tallies;
-      rising = w .rising;
-      unchanged = w .unchanged;
     })
 
 -- a BIND of variable v to a field's value x
@@ -61,66 +62,44 @@ boundIn w d next v x = record {
   at = next;
   passes = w .passes && eqb x (getD (d .values) v 0);
   due = d .due;
+  gathers = d .gathers;
   held = d .held;
   values = d .values;
   grows = d .grows;
-  tallies = w .tallies;
-  rising = w .rising;
-  unchanged = w .unchanged;
 }
 
 unfoldable pub bound : Walked → ℕ → ℕ → ℕ → Bool → Walked
 bound w next v x rises = boundIn w (holding w v x rises) next v x
 
--- list i gains a field's value x; `new` says that no value of the list equals it
-unfoldable pub gaining : Walked → ℕ → ℕ → ℕ → Bool → Bool → Walked
-gaining w next i x rises new = record {
+-- a walk behind a GATHER
+unfoldable pub noted : Walked → ℕ → Walked
+noted w next = record {
   at = next;
   passes = w .passes;
   due = w .due;
+  gathers = true;
   held = w .held;
   values = w .values;
   grows = w .grows;
-  tallies = tallyAdd (w .tallies) i x new;
-  rising = set (w .rising) i (getD (w .rising) i false && rises);
-  unchanged = set (w .unchanged) i false;
 }
-
--- a walk behind a clause that does nothing
-abbrev pub onward : Walked → ℕ → Walked
-onward w next = record {
-  at = next;
-  passes = w .passes;
-  due = w .due;
-  held = w .held;
-  values = w .values;
-  grows = w .grows;
-  tallies = w .tallies;
-  rising = w .rising;
-  unchanged = w .unchanged;
-}
-
--- a GATHER of field g's value x into the list written o; `fresh` says at i * 8 + g that no value of list i equals it
-unfoldable pub gained : Walked → ℕ → ℕ → ℕ → ℕ → Bool → List Bool → Walked
-gained w next g o x rises fresh = cond (ltb (o - 8) 4) (gaining w next (o - 8) x rises (getD fresh ((o - 8) * 8 + g) false)) (onward w next)
 
 -- the clause where the walk stands; `prior` are the values held before the step
-unfoldable pub clauseAt : List ℕ → List ℕ → List Bool → List Bool → List ℕ → Walked → Walked
-clauseAt f prior fresh rises event w =
+unfoldable pub clauseAt : List ℕ → List ℕ → List Bool → List ℕ → Walked → Walked
+clauseAt f prior rises event w =
     cond (eqb (getD f (w .at) 0) 0x12)
     (tested w (w .at + 7) (getD f (w .at + 2) 0) (getD event (getD f (w .at + 1) 0) 0) (valueAt f (w .at + 3)) (getD rises (getD f (w .at + 1) 0) false))
     (cond (eqb (getD f (w .at) 0) 0x13)
     (tested w (w .at + 4) (getD f (w .at + 2) 0) (getD event (getD f (w .at + 1) 0) 0) (getD prior (getD f (w .at + 3) 0) 0)
     (getD rises (getD f (w .at + 1) 0) false))
     (cond (eqb (getD f (w .at) 0) 0x17)
-    (gained w (w .at + 3) (getD f (w .at + 1) 0) (getD f (w .at + 2) 0) (getD event (getD f (w .at + 1) 0) 0) (getD rises (getD f (w .at + 1) 0) false) fresh)
+    (noted w (w .at + 3))
     (bound w (w .at + 3) (getD f (w .at + 2) 0) (getD event (getD f (w .at + 1) 0) 0) (getD rises (getD f (w .at + 1) 0) false))))
 
 -- the clauses from where the walk stands on, up to the first byte that is no clause's command
-unfoldable pub walkFrom : ℕ → List ℕ → List ℕ → List Bool → List Bool → List ℕ → Walked → Walked
-walkFrom zero f prior fresh rises event w = w
-walkFrom (suc n) f prior fresh rises event w =
-    cond (isClause (getD f (w .at) 0)) (walkFrom n f prior fresh rises event (clauseAt f prior fresh rises event w)) w
+unfoldable pub walkFrom : ℕ → List ℕ → List ℕ → List Bool → List ℕ → Walked → Walked
+walkFrom zero f prior rises event w = w
+walkFrom (suc n) f prior rises event w =
+    cond (isClause (getD f (w .at) 0)) (walkFrom n f prior rises event (clauseAt f prior rises event w)) w
 
 -- a walk begins behind the STEP and its target, with what the configuration holds
 unfoldable pub begun : ℕ → Configuration → Walked
@@ -128,59 +107,97 @@ begun at c = record {
   at = at + 2;
   passes = true;
   due = false;
+  gathers = false;
   held = c .held;
   values = c .values;
   grows = c .held;
-  tallies = c .tallies;
-  rising = replicate 4 true;
-  unchanged = replicate 4 true;
 }
 
 -- the clauses of the STEP at an offset
-unfoldable pub walked : List ℕ → ℕ → Configuration → List Bool → List Bool → List ℕ → Walked
-walked f at c fresh rises event = walkFrom (suc (length f)) f (c .values) fresh rises event (begun at c)
+unfoldable pub walked : List ℕ → ℕ → Configuration → List Bool → List ℕ → Walked
+walked f at c rises event = walkFrom (suc (length f)) f (c .values) rises event (begun at c)
+
+-- nothing gathered
+unfoldable pub kept : List ℕ → Gained
+kept ts = record { tallies = ts; rising = replicate 4 true; unchanged = replicate 4 true }
+
+-- list i gains a field's value x; `new` says that no value of the list equals it
+unfoldable pub gaining : Gained → ℕ → ℕ → Bool → Bool → Gained
+gaining g i x rises new = record {
+  tallies = tallyAdd (g .tallies) i x new;
+  rising = set (g .rising) i (getD (g .rising) i false && rises);
+  unchanged = set (g .unchanged) i false;
+}
+
+-- a GATHER of field k's value x into the list written o; `fresh` says at i * 8 + k that no value of list i equals it
+unfoldable pub gathered : Gained → ℕ → ℕ → ℕ → Bool → List Bool → Gained
+gathered g k o x rises fresh = cond (ltb (o - 8) 4) (gaining g (o - 8) x rises (getD fresh ((o - 8) * 8 + k) false)) g
+
+-- the clause at a place
+unfoldable pub gainAt : List ℕ → List Bool → List Bool → List ℕ → ℕ → Gained → Gained
+gainAt f fresh rises event p g =
+    cond (eqb (getD f p 0) 0x17)
+    (gathered g (getD f (p + 1) 0) (getD f (p + 2) 0) (getD event (getD f (p + 1) 0) 0) (getD rises (getD f (p + 1) 0) false) fresh)
+    g
+
+-- the clauses from a place on, up to the first byte that is no clause's command
+unfoldable pub gainFrom : ℕ → List ℕ → List Bool → List Bool → List ℕ → ℕ → Gained → Gained
+gainFrom zero f fresh rises event p g = g
+gainFrom (suc n) f fresh rises event p g =
+    cond (isClause (getD f p 0)) (gainFrom n f fresh rises event (p + widthOf (getD f p 0)) (gainAt f fresh rises event p g)) g
+
+-- what the clauses of the STEP at an offset gather, from these tallies on
+unfoldable pub gained : List ℕ → ℕ → List ℕ → List Bool → List Bool → List ℕ → Gained
+gained f at ts fresh rises event = gainFrom (suc (length f)) f fresh rises event (at + 2) (kept ts)
 
 -- one added to a state's counter; a counter stops at 4294967295
 unfoldable pub raised : List ℕ → ℕ → List ℕ
 raised counters s = set counters s (min (getD counters s 0 + 1) 4294967295)
 
--- what a step leaves: its target, what the walk has bound and gathered, the counters raised
-abbrev pub leaving : ℕ → Walked → List ℕ → Configuration
-leaving target w counters = record { state = target; held = w .held; values = w .values; counters = counters; tallies = w .tallies }
+-- what a step leaves: its target, what the walk has bound, the counters raised, what it has gathered
+abbrev pub leaving : ℕ → Walked → List ℕ → List ℕ → Configuration
+leaving target w counters ts = record { state = target; held = w .held; values = w .values; counters = counters; tallies = ts }
 
 -- the guard behind the walk, with the counters raised
-abbrev pub guardBehind : List ℕ → Walked → List ℕ → Bool
-guardBehind f w counters = guardAt (leafValue (w .values) counters (w .tallies)) f (w .at)
+abbrev pub guardBehind : List ℕ → Walked → List ℕ → List ℕ → Bool
+guardBehind f w counters ts = guardAt (leafValue (w .values) counters ts) f (w .at)
 
-abbrev pub firedBy : List ℕ → ℕ → Walked → List ℕ → Fired
-firedBy f at w counters = record { fires = w .passes && guardBehind f w counters; config = leaving (getD f (at + 1) 0) w counters }
+-- a step that a clause keeps from firing leaves the configuration
+abbrev pub firedBy : List ℕ → ℕ → Configuration → Walked → List ℕ → List ℕ → Fired
+firedBy f at c w counters ts = record {
+  fires = w .passes && guardBehind f w counters ts;
+  config = cond (w .passes) (leaving (getD f (at + 1) 0) w counters ts) c;
+}
 
 -- whether the STEP at an offset fires, and the configuration that it leaves; past the end there is no step
 unfoldable pub fired : List ℕ → ℕ → Configuration → List Bool → List ℕ → Fired
 fired f at c fresh event =
     cond (leb (length f) at) (record { fires = false; config = c })
-    (firedBy f at (walked f at c fresh (replicate 8 false) event) (raised (c .counters) (c .state)))
+    (firedBy f at c (walked f at c (replicate 8 false) event) (raised (c .counters) (c .state))
+    ((gained f at (c .tallies) fresh (replicate 8 false) event) .tallies))
 
 -- the configuration that the code holds, with its lists, which it does not hold
 abbrev pub configOf : List (List ℕ) → Configuration → Config
 configOf ls c = record { state = c .state; held = c .held; values = c .values; counters = c .counters; lists = ls }
 
--- the leaves that are falling behind a walk, by the variables held before it, and those that are rising
-abbrev pub falling : List Bool → Walked → Marks
-falling held w = record { variables = held; sums = w .unchanged; differents = w .unchanged }
+-- the leaves that are falling behind a step, by the variables held before it, and those that are rising, by the variables that grow
+abbrev pub falling : List Bool → Gained → Marks
+falling held g = record { variables = held; sums = g .unchanged; differents = g .unchanged }
 
-abbrev pub growing : Walked → Marks
-growing w = record { variables = w .grows; sums = w .rising; differents = w .unchanged }
+abbrev pub growing : List Bool → Gained → Marks
+growing grows g = record { variables = grows; sums = g .rising; differents = g .unchanged }
 
-abbrev pub fallsBehind : List ℕ → List Bool → Walked → Bool
-fallsBehind f held w = fallsAt (leafMarked (falling held w)) (leafMarked (growing w)) f (w .at)
+abbrev pub fallsBehind : List ℕ → ℕ → List Bool → List Bool → Gained → Bool
+fallsBehind f p held grows g = fallsAt (leafMarked (falling held g)) (leafMarked (growing grows g)) f p
 
 -- the STEP at an offset is expired by an event's values; past the end there is no step
-abbrev pub lapsedBy : List ℕ → List Bool → Walked → List ℕ → Bool
-lapsedBy f held w counters = w .due || (fallsBehind f held w && not (guardBehind f w counters))
+abbrev pub lapsedBy : List ℕ → List Bool → Walked → List ℕ → Gained → Bool
+lapsedBy f held w counters g = w .due || (fallsBehind f (w .at) held (w .grows) g && not (guardBehind f w counters (g .tallies)))
 
 unfoldable pub lapsed : List ℕ → ℕ → Configuration → List Bool → List Bool → List ℕ → Bool
-lapsed f at c fresh rises event = cond (leb (length f) at) true (lapsedBy f (c .held) (walked f at c fresh rises event) (raised (c .counters) (c .state)))
+lapsed f at c fresh rises event =
+    cond (leb (length f) at) true
+    (lapsedBy f (c .held) (walked f at c rises event) (raised (c .counters) (c .state)) (gained f at (c .tallies) fresh rises event))
 
 -- where step k of state s stands, by the table of offsets; 0 where there is none
 unfoldable pub offsetOf : List ℕ → ℕ → ℕ → ℕ

@@ -1,17 +1,13 @@
 -- What an event alone says of a step.
 use Prim.Native.Nat.{ℕ, _+_}
 use mathlib.Core.Path.{_≡_}
-use mathlib.Core.Bool.{Bool, true, false, not, _&&_, cond}
+use mathlib.Core.Bool.{Bool, true, false, not, _&&_}
 use mathlib.Core.List.{List}
 use lib.ListN.{getD}
 use lib.Dec.{eqb}
 use Rattle.base.specs.Value.{valueAt}
 use Rattle.machine_code.specs.declared.Configuration.{Configuration}
-use Rattle.machine_code.specs.inner.Bytes.{holdsBy, missedBy, fired, lapsed}
-
--- the bytes of a clause, by its command; 0 for what is no clause
-unfoldable pub widthOf : ℕ → ℕ
-widthOf c = cond (eqb c 0x12) 7 (cond (eqb c 0x13) 4 (cond (eqb c 0x17) 3 (cond (eqb c 0x14) 3 0)))
+use Rattle.machine_code.specs.inner.Bytes.{holdsBy, missedBy, widthOf, fired, lapsed}
 
 -- command c, at p, is a TEST that is false on the event
 unfoldable pub failsAt : List ℕ → ℕ → ℕ → List ℕ → Bool

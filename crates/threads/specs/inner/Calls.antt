@@ -132,15 +132,23 @@ EndedIs l places f table rules m best t r = ImprovedIs l places f table rules m 
 
 -- ---- the waiting list
 
--- the lists gathered along a thread's trail, as words
-abbrev pub ListsIs : List ℕ → List ℕ → List ℕ → List ℕ → Rules → Thread → List ℕ → Type 0
-ListsIs l places f table rules t r =
-    (g : Log) (fm : Formula) (m : Moment) → Scene g fm l places f table rules m → Fit g fm t → Holds (gathered g fm (trailOf t)) r
+-- the lists gathered along the trail of a thread with these steps, as words
+abbrev pub ListsIs : List ℕ → List ℕ → List ℕ → List ℕ → Rules → List ℕ → ℕ → List ℕ → Type 0
+ListsIs l places f table rules trail steps r =
+    (g : Log) (fm : Formula) (m : Moment) → Scene g fm l places f table rules m → (t : Thread) → t .trail ≡ trail → t .steps ≡ steps → Fit g fm t
+    → Holds (gathered g fm (trailOf t)) r
 
 -- which of these values are new to its lists
-abbrev pub FreshIs : List ℕ → List ℕ → List ℕ → List ℕ → Rules → Thread → List ℕ → List Bool → Type 0
-FreshIs l places f table rules t values r =
-    (g : Log) (fm : Formula) (m : Moment) → Scene g fm l places f table rules m → Fit g fm t → IsFresh (gathered g fm (trailOf t)) values r
+abbrev pub NewIs : List ℕ → List ℕ → List ℕ → List ℕ → Rules → List ℕ → ℕ → List ℕ → List Bool → Type 0
+NewIs l places f table rules trail steps values r =
+    (g : Log) (fm : Formula) (m : Moment) → Scene g fm l places f table rules m → (t : Thread) → t .trail ≡ trail → t .steps ≡ steps → Fit g fm t
+    → IsFresh (gathered g fm (trailOf t)) values r
+
+-- and so for a thread that has these tallies
+abbrev pub FreshIs : List ℕ → List ℕ → List ℕ → List ℕ → Rules → List ℕ → List ℕ → ℕ → List ℕ → List Bool → Type 0
+FreshIs l places f table rules tallies trail steps values r =
+    (g : Log) (fm : Formula) (m : Moment) → Scene g fm l places f table rules m → (t : Thread) → t .config .tallies ≡ tallies → t .trail ≡ trail
+    → t .steps ≡ steps → Fit g fm t → IsFresh (gathered g fm (trailOf t)) values r
 
 -- two threads with the same words have gathered the same lists
 abbrev pub SameListsIs : List ℕ → List ℕ → List ℕ → List ℕ → Rules → Thread → Thread → Bool → Type 0

@@ -5,12 +5,12 @@ use borrow.Author.Needs.{needs}
 use Rattle.machine_code.proofs.clauses.begin.Statement.{statement}
 use Rattle.machine_code.proofs.clauses.begin.Tie as tie
 
-add-t6 : tie.Need-add-t6
-add-t6 c = search needs
+add-t5 : tie.Need-add-t5
+add-t5 c = search needs
 
 returns : tie.Need-returns
 unfolding begun
 returns c = refl
 
 pub begin-spec : {M : Type 1} → statement M
-begin-spec = tie.close (tie.spec add-t6 returns)
+begin-spec = tie.close (tie.spec add-t5 returns)

@@ -1,6 +1,6 @@
 -- `clauses::clause` meets its contract: by the command byte, its operands read where they stand.
 use denote.Ref.{now}
-use Rattle.machine_code.proofs.ClausesOnBytes.{clause-test, clause-testv, clause-gain, clause-bind}
+use Rattle.machine_code.proofs.ClausesOnBytes.{clause-test, clause-testv, clause-note, clause-bind}
 use borrow.Author.Needs.{needs}
 use Rattle.machine_code.proofs.clauses.clause.Statement.{statement}
 use Rattle.machine_code.proofs.clauses.clause.Tie as tie
@@ -62,11 +62,11 @@ value-of-requires-2 c κs = search needs
 test-requires-2 : tie.Need-test-requires-2
 test-requires-2 c κs = search needs
 
-add-gather : tie.Need-add-gather
-add-gather c = search needs
+add-note : tie.Need-add-note
+add-note c = search needs
 
-gather-requires : tie.Need-gather-requires
-gather-requires c κs = search needs
+note-requires : tie.Need-note-requires
+note-requires c κs = search needs
 
 add-bind : tie.Need-add-bind
 add-bind c = search needs
@@ -80,7 +80,7 @@ returns c =
     let c3 = c3 in
     let c7 = c3 .before .before .before .before in
     let a = c7 .before .before .before .before .args in
-    clause-test (now (a .f)) (a .t3) (a .fresh) (a .t5) (a .t6) (a .w) (c7 .before .before .byte-at .result) (c7 .value-of .result)
+    clause-test (now (a .f)) (a .t3) (a .t4) (a .t5) (a .w) (c7 .before .before .byte-at .result) (c7 .value-of .result)
     (c3 .before .byte-at2 .result) (c3 .byte-at3 .result) (c3 .before .before .mark-of .result) (c7 .before .before .byte-at .ensures .0)
     (c7 .value-of .ensures) (c3 .before .before .mark-of .ensures) (c3 .before .byte-at2 .ensures .0) (c3 .byte-at3 .ensures .0)
     (c .before .value-at .result) _ (c .before .before .match .keys1) (c .before .value-at .ensures) (c .test .ensures)
@@ -92,7 +92,7 @@ returns-2 c =
     let c7 = c4 .before .before .before in
     let c11 = c7 .before .before .before .before in
     let a = c11 .before .before .args in
-    clause-testv (now (a .f)) (a .t3) (a .fresh) (a .t5) (a .t6) (a .w) (c11 .byte-at .result) (c7 .before .before .value-of .result)
+    clause-testv (now (a .f)) (a .t3) (a .t4) (a .t5) (a .w) (c11 .byte-at .result) (c7 .before .before .value-of .result)
     (c4 .before .before .byte-at2 .result) (c4 .before .byte-at3 .result) (c7 .mark-of .result) (c11 .byte-at .ensures .0)
     (c7 .before .before .value-of .ensures) (c7 .mark-of .ensures) (c4 .before .before .byte-at2 .ensures .0) (c4 .before .byte-at3 .ensures .0)
     (c .before .before .byte-at4 .result) (c .before .value-of2 .result) _ (c4 .match .keys2) (c .before .before .byte-at4 .ensures .0)
@@ -104,10 +104,10 @@ returns-3 c =
     let c3 = c3 in
     let c6 = c3 .before .before .before in
     let a = c6 .before .before .before .before .args in
-    clause-gain (now (a .f)) (a .t3) (a .fresh) (a .t5) (a .t6) (a .w) (c6 .before .before .byte-at .result) (c6 .value-of .result) (c3 .byte-at2 .result)
+    clause-note (now (a .f)) (a .t3) (a .t4) (a .t5) (a .w) (c6 .before .before .byte-at .result) (c6 .value-of .result) (c3 .byte-at2 .result)
     (c .before .before .byte-at3 .result) (c3 .before .mark-of .result) (c6 .before .before .byte-at .ensures .0) (c6 .value-of .ensures)
     (c3 .before .mark-of .ensures) (c3 .byte-at2 .ensures .0) (c .before .before .byte-at3 .ensures .0) _
-    (c .before .match .keys3) (c .gather .ensures)
+    (c .before .match .keys3) (c .note .ensures)
 
 returns-4 : tie.Need-returns-4
 returns-4 c =
@@ -115,7 +115,7 @@ returns-4 c =
     let c3 = c3 in
     let c6 = c3 .before .before .before in
     let a = c6 .before .before .before .before .args in
-    clause-bind (now (a .f)) (a .t3) (a .fresh) (a .t5) (a .t6) (a .w) (c6 .before .before .byte-at .result) (c6 .value-of .result) (c3 .byte-at2 .result)
+    clause-bind (now (a .f)) (a .t3) (a .t4) (a .t5) (a .w) (c6 .before .before .byte-at .result) (c6 .value-of .result) (c3 .byte-at2 .result)
     (c .before .before .byte-at3 .result) (c3 .before .mark-of .result) (c6 .before .before .byte-at .ensures .0) (c6 .value-of .ensures)
     (c3 .before .mark-of .ensures) (c3 .byte-at2 .ensures .0) (c .before .before .byte-at3 .ensures .0) _ (c .before .match .rest .0 .0 .1)
     (c .before .match .rest .0 .1) (c .before .match .rest .1) (c .bind .ensures)
@@ -143,8 +143,8 @@ clause-spec =
     byte-at-requires-4
     value-of-requires-2
     test-requires-2
-    add-gather
-    gather-requires
+    add-note
+    note-requires
     add-bind
     bind-requires
     returns

@@ -19,6 +19,9 @@ returns-2 c =
     lapsed-due (now (a .f)) (a .at) (a .c) (a .fresh) (a .rises) (a .latest .values) (c .before .walk .result) (c3 .if1 .left) (c .before .walk .ensures)
     (c .if2 .taken)
 
+gains-requires : tie.Need-gains-requires
+gains-requires c κs = search needs
+
 falls-behind-requires : tie.Need-falls-behind-requires
 falls-behind-requires c κs = search needs
 
@@ -31,20 +34,27 @@ guard-holds-requires c κs = search needs
 returns-3 : tie.Need-returns-3
 returns-3 c =
     let c5 = c .before .before .before .before .before in
-    let c8 = c5 .before .before .before in
-    let c11 = c8 .before .before .before in
-    let a = c11 .before .before .args in
-    lapsed-guard (now (a .f)) (a .at) (a .c) (a .fresh) (a .rises) (a .latest .values) (c8 .before .walk .result) (c11 .if1 .left) (c8 .before .walk .ensures)
-    (c .before .raise .result) (c5 .before .falls-behind .result) _ (c8 .if2 .left) (c .before .raise .ensures) (c5 .before .falls-behind .ensures)
-    (c5 .if3 .taken) (c .guard-holds .ensures)
+    let c6 = c5 .before in
+    let c9 = c6 .before .before .before in
+    let c11 = c9 .before .before in
+    let c12 = c11 .before in
+    let c14 = c12 .before .before in
+    let c16 = c14 .before .before in
+    let a = c16 .args in
+    lapsed-guard (now (a .f)) (a .at) (a .c) (a .fresh) (a .rises) (a .latest .values) (c12 .walk .result) (c14 .if1 .left) (c12 .walk .ensures)
+    (c9 .gains .result) (c9 .gains .ensures) (c .before .raise .result) (c6 .falls-behind .result) _ (c11 .if2 .left) (c .before .raise .ensures)
+    (c6 .falls-behind .ensures) (c5 .if3 .taken) (c .guard-holds .ensures)
 
 returns-4 : tie.Need-returns-4
 returns-4 c =
-    let c3 = c .before .before .before in
-    let c6 = c3 .before .before .before in
-    let a = c6 .before .before .args in
-    lapsed-not (now (a .f)) (a .at) (a .c) (a .fresh) (a .rises) (a .latest .values) (c3 .before .walk .result) (c6 .if1 .left) (c3 .before .walk .ensures)
-    (c .before .falls-behind .result) (c3 .if2 .left) (c .before .falls-behind .ensures) (c .if3 .left)
+    let c4 = c .before .before .before .before in
+    let c6 = c4 .before .before in
+    let c7 = c6 .before in
+    let c9 = c7 .before .before in
+    let c11 = c9 .before .before in
+    let a = c11 .args in
+    lapsed-not (now (a .f)) (a .at) (a .c) (a .fresh) (a .rises) (a .latest .values) (c7 .walk .result) (c9 .if1 .left) (c7 .walk .ensures)
+    (c4 .gains .result) (c4 .gains .ensures) (c .before .falls-behind .result) (c6 .if2 .left) (c .before .falls-behind .ensures) (c .if3 .left)
 
 pub expired-spec : {M : Type 1} → statement M
 expired-spec =
@@ -53,6 +63,7 @@ expired-spec =
     returns
     walk-requires
     returns-2
+    gains-requires
     falls-behind-requires
     raise-requires
     guard-holds-requires

@@ -1,5 +1,6 @@
 -- `firing::fire` meets its contract: the walk, the counters raised, the guard.
 use denote.Ref.{now}
+use borrow.Author.Tests.{not-true, not-false}
 use Rattle.machine_code.proofs.FiringOnBytes.{fired-out, fired-guard, fired-failed}
 use borrow.Author.Needs.{needs}
 use Rattle.machine_code.proofs.firing.fire.Statement.{statement}
@@ -18,29 +19,35 @@ byte-at-requires c κs = search needs
 walk-requires : tie.Need-walk-requires
 walk-requires c κs = search needs
 
+returns-2 : tie.Need-returns-2
+returns-2 c =
+    let c5 = c .before .before .before .before .before in
+    let c7 = c5 .before .before in
+    let a = c7 .args in
+    fired-failed (now (a .f)) (a .at) (a .c) (a .fresh) (a .event .values) (c .before .before .walk .result) (c5 .if1 .left)
+    (c .before .before .walk .ensures) (not-true _ (c .if2 .taken))
+
+gains-requires : tie.Need-gains-requires
+gains-requires c κs = search needs
+
 raise-requires : tie.Need-raise-requires
 raise-requires c κs = search needs
 
 guard-holds-requires : tie.Need-guard-holds-requires
 guard-holds-requires c κs = search needs
 
-returns-2 : tie.Need-returns-2
-returns-2 c =
-    let c7 = c .before .before .before .before .before .before .before in
-    let c10 = c7 .before .before .before in
-    let a = c10 .before .before .args in
-    fired-guard (now (a .f)) (a .at) (a .c) (a .fresh) (a .event .values) (c7 .walk .result) (c .before .before .raise .result)
-    (c7 .before .before .byte-at .result) (c10 .if1 .left) (c7 .walk .ensures) (c .before .before .raise .ensures)
-    (c7 .before .before .byte-at .ensures .0) (c .guard-holds .result) (c .before .if2 .taken) (c .guard-holds .ensures)
-
 returns-3 : tie.Need-returns-3
 returns-3 c =
-    let c6 = c .before .before .before .before .before .before in
-    let c9 = c6 .before .before .before in
-    let a = c9 .before .before .args in
-    fired-failed (now (a .f)) (a .at) (a .c) (a .fresh) (a .event .values) (c6 .walk .result) (c .before .raise .result)
-    (c6 .before .before .byte-at .result) (c9 .if1 .left) (c6 .walk .ensures) (c .before .raise .ensures) (c6 .before .before .byte-at .ensures .0)
-    (c .if2 .left)
+    let c4 = c .before .before .before .before in
+    let c8 = c4 .before .before .before .before in
+    let c10 = c8 .before .before in
+    let c12 = c10 .before .before in
+    let c13 = c12 .before in
+    let c15 = c13 .before .before in
+    let a = c15 .args in
+    fired-guard (now (a .f)) (a .at) (a .c) (a .fresh) (a .event .values) (c10 .walk .result) (c13 .if1 .left) (c10 .walk .ensures) (c .before .raise .result)
+    (c12 .byte-at .result) (c4 .gains .result) (c .guard-holds .result) (not-false _ (c8 .if2 .left)) (c .before .raise .ensures) (c12 .byte-at .ensures .0)
+    (c4 .gains .ensures) (c .guard-holds .ensures)
 
 pub fire-spec : {M : Type 1} → statement M
 fire-spec =
@@ -50,7 +57,8 @@ fire-spec =
     add-byte-at
     byte-at-requires
     walk-requires
+    returns-2
+    gains-requires
     raise-requires
     guard-holds-requires
-    returns-2
     returns-3)

@@ -1,5 +1,5 @@
 -- `marks::width` meets its contract: by the command.
-use Rattle.machine_code.specs.inner.Marks.{widthOf}
+use Rattle.machine_code.specs.inner.Bytes.{widthOf}
 use borrow.Author.Tests.{ne-eqb}
 use Rattle.machine_code.proofs.marks.width.Statement.{statement}
 use Rattle.machine_code.proofs.marks.width.Tie as tie

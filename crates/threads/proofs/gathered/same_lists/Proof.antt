@@ -1,43 +1,33 @@
--- `gathered::same_lists` meets its contract: the words are the same exactly when the lists are.
-use mathlib.Core.Path.{_∙_}
-use Rattle.machine.specs.inner.Along.{gathered}
-use Rattle.slots.specs.inner.Threads.{trailOf}
-use Rattle.lists.proofs.Holding.{same-lists}
+-- `gathered::same_lists` meets its contract: neither has gathered, or the lists are read back.
+use mathlib.Core.Path.{sym, _∙_}
+use Rattle.runs.proofs.Moves.{and-both}
+use Rattle.threads.proofs.Lists.{same-nothing}
 use borrow.Author.Needs.{needs}
 use Rattle.threads.proofs.gathered.same_lists.Statement.{statement}
 use Rattle.threads.proofs.gathered.same_lists.Tie as tie
 
-lists-at-requires : tie.Need-lists-at-requires
-lists-at-requires c κs = search needs
+is-empty-requires : tie.Need-is-empty-requires
+is-empty-requires c κs = search needs
 
-lists-at-requires-2 : tie.Need-lists-at-requires-2
-lists-at-requires-2 c κs = search needs
+is-empty-requires-2 : tie.Need-is-empty-requires-2
+is-empty-requires-2 c κs = search needs
 
-slice-aggregate-same-words : tie.Need-slice-aggregate-same-words
-slice-aggregate-same-words c = search needs
-
-slice-aggregate-same-words-2 : tie.Need-slice-aggregate-same-words-2
-slice-aggregate-same-words-2 c = search needs
-
-same-words-requires : tie.Need-same-words-requires
-same-words-requires c κs = search needs
+both-requires : tie.Need-both-requires
+both-requires c κs = search needs
 
 returns : tie.Need-returns
 returns c =
-    let x = c .before .before .before .before .before .before .before .before .before .args in
-    let p = c .before .before .before .before .lists-at in
-    let q = c .before .before .before .lists-at2 in
+    let c3 = c .before .before .before in
+    let a = c3 .before .before .before .before .before .before .before .before .before .args in
+    let p = and-both (c3 .is-empty .result) (c .before .before .is-empty2 .result) (sym (c .before .both .ensures) ∙ c .if1 .taken) in
     λ g fm m s v w e.
-    c .same-words .ensures
-    ∙ same-lists (gathered g fm (trailOf (x .a))) (gathered g fm (trailOf (x .b))) (p .result) (q .result) (p .ensures g fm m s v) (q .ensures g fm m s w)
+    same-nothing g fm (a .a) (a .b) v w (c3 .is-empty .ensures (p .0)) (c .before .before .is-empty2 .ensures (p .1))
+
+same-read-requires : tie.Need-same-read-requires
+same-read-requires c κs = search needs
+
+returns-2 : tie.Need-returns-2
+returns-2 c = c .same-read .ensures
 
 pub same-lists-spec : {M : Type 1} → statement M
-same-lists-spec =
-    tie.close
-    (tie.spec
-    lists-at-requires
-    lists-at-requires-2
-    slice-aggregate-same-words
-    slice-aggregate-same-words-2
-    same-words-requires
-    returns)
+same-lists-spec = tie.close (tie.spec is-empty-requires is-empty-requires-2 both-requires returns same-read-requires returns-2)

@@ -18,7 +18,8 @@ step-offset-requires c κs = search needs
 
 returns : tie.Need-returns
 returns c =
-    let a = c .before .before .before .before .before .before .before .args in
+    let c7 = c .before .before .before .before .before .before .before in
+    let a = c7 .args in
     λ g fm s h b.
     let e = fires-none g fm (now (a .f)) (now (a .table)) (a .rules) (a .moment) s (a .t) h (a .k) b (sym (c .before .step-offset .ensures) ∙ c .if1 .taken) in
     subst (λ (o : Option Config). FiredBy o (a .t) (record { fires = false; thread = a .t })) (sym e) refl
@@ -31,16 +32,19 @@ fire-requires c κs = search needs
 
 returns-2 : tie.Need-returns-2
 returns-2 c =
-    let a = c .before .before .before .before .before .before .before .before .before .before .before .before .before .args in
+    let c7 = c .before .before .before .before .before .before .before in
+    let c8 = c7 .before in
+    let c14 = c8 .before .before .before .before .before .before in
+    let a = c14 .args in
     let d = a .t .config in
-    let x = c .before .before .fire in
-    let n = c .before .before .before .fresh-at in
-    let y = c .before .before .before .before .before .before .before .step-offset in
+    let x = c .before .fire in
+    let n = c .before .before .fresh-at in
+    let y = c8 .step-offset in
     let event = a .moment .event .values in
     let r : Fired → Move = λ z. record { fires = z .fires; thread = record { config = z .config; steps = a .t .steps; trail = a .t .trail } } in
     λ g fm s h b.
-    fires-some g fm (now (a .f)) (now (a .table)) (a .rules) (a .moment) s (a .t) h (a .k) b (n .result) (n .ensures g fm (a .moment) s h)
-    (λ z. c .before .before .before .before .before .before .if1 .left (y .ensures ∙ z)) (r (x .result))
+    fires-some g fm (now (a .f)) (now (a .table)) (a .rules) (a .moment) s (a .t) h (a .k) b (n .result) (n .ensures g fm (a .moment) s (a .t) refl refl refl h)
+    (λ z. c7 .if1 .left (y .ensures ∙ z)) (r (x .result))
     (λ at q. ap r (x .ensures ∙ ap (λ i. fired (now (a .f)) i d (n .result) event) (y .ensures ∙ sym q)))
 
 pub fires-at-spec : {M : Type 1} → statement M

@@ -2,7 +2,7 @@
 use Rattle.machine_code.specs.inner.Bytes.{expiresAt, aliveBelow}
 use Rattle.base.proofs.Lists.{rest-drop}
 use native.Mathlib.Omega.{arith}
-use mathlib.Core.Path.{ap, _∙_}
+use mathlib.Core.Path.{refl, ap, _∙_}
 use denote.Ref.{now}
 use Rattle.threads.proofs.Tables.{hopeful-here}
 use borrow.Author.Needs.{needs}
@@ -29,14 +29,15 @@ hopeful-requires c κs = search needs
 
 returns-2 : tie.Need-returns-2
 returns-2 c =
-    let a = c .before .before .before .before .before .before .before .before .before .before .before .before .args in
+    let c14 = c .before .before .before .before .before .before .before .before .before .before .before .before .before .before in
+    let a = c14 .args in
     let f = now (a .f) in
     let steps = now (a .table) in
     let n = c .before .before .fresh-at in
     λ g fm s h.
     c .hopeful .ensures
     ∙ ap (λ x. aliveBelow (expiresAt f x (a .t .config) (n .result) (a .rules .rises) (a .moment .latest .values)) 8) (rest-drop steps 128)
-    ∙ hopeful-here g fm f steps (a .rules) (a .moment) s (a .t) h (n .result) (n .ensures g fm (a .moment) s h)
+    ∙ hopeful-here g fm f steps (a .rules) (a .moment) s (a .t) h (n .result) (n .ensures g fm (a .moment) s (a .t) refl refl refl h)
 
 pub hopeful-at-spec : {M : Type 1} → statement M
 hopeful-at-spec =

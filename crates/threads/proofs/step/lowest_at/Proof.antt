@@ -1,6 +1,6 @@
 -- `threads::lowest_at` meets its contract: where the scene stands, the code's lowest step that fires is the machine's.
 use native.Mathlib.Omega.{arith}
-use mathlib.Core.Path.{_≡_, sym, subst}
+use mathlib.Core.Path.{_≡_, refl, sym, subst}
 use denote.Ref.{now}
 use Rattle.threads.specs.inner.Setting.{conf}
 use Rattle.threads.specs.inner.Calls.{Lowest}
@@ -20,13 +20,15 @@ lowest-requires c κs = search needs
 
 cast-result : tie.Need-cast-result
 cast-result c =
-    let a = c .before .before .before .before .before .before .before .before .before .args in
+    let c11 = c .before .before .before .before .before .before .before .before .before .before .before in
+    let a = c11 .args in
     let p = firesAt (now (a .f)) (now (a .table)) (a .t .config) (c .before .fresh-at .result) (a .moment .event .values) in
     omega (arith, c .lowest .ensures, lowest-means p .most)
 
 returns : tie.Need-returns
 returns c =
-    let a = c .before .before .before .before .before .before .before .before .before .args in
+    let c11 = c .before .before .before .before .before .before .before .before .before .before .before in
+    let a = c11 .args in
     let x = c .before .fresh-at in
     let p = firesAt (now (a .f)) (now (a .table)) (a .t .config) (x .result) (a .moment .event .values) in
     let e : c .lowest .result ≡ lowestOf p = c .lowest .ensures in (
@@ -35,7 +37,8 @@ returns c =
           let n = a .moment .number in
           subst (Lowest g fm (conf g fm (a .t)) n) (sym e)
           (lowest-found g fm (a .t) n (lowestOf p)
-          (lowest-here g fm (now (a .f)) (now (a .table)) (a .rules) (a .moment) s (a .t) h (x .result) (x .ensures g fm (a .moment) s h))),
+          (lowest-here g fm (now (a .f)) (now (a .table)) (a .rules) (a .moment) s (a .t) h (x .result)
+          (x .ensures g fm (a .moment) s (a .t) refl refl refl h))),
     )
 
 pub lowest-at-spec : {M : Type 1} → statement M

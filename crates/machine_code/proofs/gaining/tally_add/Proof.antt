@@ -1,8 +1,8 @@
--- `clauses::tally_add` meets its contract: each tally is set to what its sum says.
+-- `gaining::tally_add` meets its contract: each tally is set to what its sum says.
 use Rattle.machine.specs.inner.Along.{tallyAdd}
 use borrow.Author.Needs.{needs}
-use Rattle.machine_code.proofs.clauses.tally_add.Statement.{statement}
-use Rattle.machine_code.proofs.clauses.tally_add.Tie as tie
+use Rattle.machine_code.proofs.gaining.tally_add.Statement.{statement}
+use Rattle.machine_code.proofs.gaining.tally_add.Tie as tie
 
 mul-sum : tie.Need-mul-sum
 mul-sum c = search needs

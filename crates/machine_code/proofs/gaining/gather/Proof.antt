@@ -1,14 +1,14 @@
--- `clauses::gather` meets its contract: out of range, or one value more.
-use Rattle.machine_code.proofs.ClausesOnBytes.{gather-out, gather-made}
+-- `gaining::gather` meets its contract: out of range, or one value more.
+use Rattle.machine_code.proofs.GainingOnBytes.{gather-out, gather-made}
 use borrow.Author.Needs.{needs}
-use Rattle.machine_code.proofs.clauses.gather.Statement.{statement}
-use Rattle.machine_code.proofs.clauses.gather.Tie as tie
+use Rattle.machine_code.proofs.gaining.gather.Statement.{statement}
+use Rattle.machine_code.proofs.gaining.gather.Tie as tie
 
 difference-requires : tie.Need-difference-requires
 difference-requires c κs = search needs
 
 returns : tie.Need-returns
-returns c = gather-out (c .before .before .args .t1) _ _ _ _ _ _ _ (c .before .difference .ensures) (c .if1 .taken)
+returns c = gather-out (c .before .before .args .t1) _ _ _ _ _ _ (c .before .difference .ensures) (c .if1 .taken)
 
 cast-i : tie.Need-cast-i
 cast-i c = search needs
@@ -44,7 +44,7 @@ returns-2 : tie.Need-returns-2
 returns-2 c =
     let c6 = c .before .before .before .before .before .before in
     let new = c .before .before .before .mark-of in
-    gather-made (c6 .before .before .args .t1) _ _ _ _ _ _ (new .result) _ _ _ (c6 .before .difference .ensures) (c6 .if1 .left) (new .ensures)
+    gather-made (c6 .before .before .args .t1) _ _ _ _ _ (new .result) _ _ _ (c6 .before .difference .ensures) (c6 .if1 .left) (new .ensures)
     (c .before .before .tally-add .ensures) (c .both .ensures)
 
 pub gather-spec : {M : Type 1} → statement M
