@@ -52,7 +52,7 @@ fn gather_step(lists: &mut [u32; 132], f: &[u8], at: usize, values: &[u32])
 }
 
 // An entry of a table, 0 past its end.
-fn entry(places: &[usize], i: usize) -> usize
+pub fn entry(places: &[usize], i: usize) -> usize
     ensures { λ r. ⌜ r ≡ getD (now (places .entry)) i 0 ⌝ }
 {
     if i < places.len() { places[i] } else { 0 }

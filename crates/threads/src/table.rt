@@ -5,16 +5,9 @@ use crate::Seats;
 ghost use mathlib.Core.Path.{_≡_};
 ghost use mathlib.Core.Bool.{true, cond};
 ghost use Prim.Native.Nat.{_<_};
-ghost use lib.ListN.{length, getD};
+ghost use lib.ListN.{length};
 ghost use Rattle.threads.specs.inner.Event.{Seated};
 ghost use Rattle.threads.specs.inner.Setting.{Wide, MarkedBy, MarkedIs};
-
-// An entry of a table, 0 past its end.
-fn entry(steps: &[usize], i: usize) -> usize
-    ensures { λ r. ⌜ r ≡ getD (now (steps .entry)) i 0 ⌝ }
-{
-    if i < steps.len() { steps[i] } else { 0 }
-}
 
 // The three parts, before an event says anything.
 pub fn widened(steps: &[usize; 128]) -> [usize; 384]
@@ -51,7 +44,7 @@ fn mark_entry(
     requires { ⌜ (length (now table) ≡ 384) × (i < 128) ⌝ }
     ensures { λ _. ⌜ MarkedBy (now (f .entry)) (now (steps .entry)) (now (rises .entry)) (now (event .entry)) (now (latest .entry)) (now (table .entry)) (now (table .exit)) ⌝ }
 {
-    let place = machine_code::marks::barred(f, entry(steps, i), event);
+    let place = machine_code::marks::barred(f, lists::entry(steps, i), event);
     if 0 < place {
         table[i] = 0;
         table[128 + i] = unless(
