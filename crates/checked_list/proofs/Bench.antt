@@ -191,8 +191,8 @@ pub record Bench : Type 0 where
   pub m8 : searchRefused L F 0 191 ≡ some (line 3 10 192)
   -- "M9 G without its BIND: (2,8,15)"
   pub m9 : refused L unboundG ≡ some (line 2 8 15)
-  -- "M10 F with first target 5: (2,3,2)"
-  pub m10 : refused L absentF ≡ some (line 2 3 2)
+  -- "M10 F with first target 5": "M10 becomes (2,13,2)"
+  pub m10 : refused L absentF ≡ some (line 2 13 2)
   -- "M11 ADD of 4294967295 and 1 is 4294967295; SUB of 3 and 5 is 0"
   pub m11-add : (c : Configuration.Config) → value c (ADD (LEAF (CONST 4294967295)) (LEAF (CONST 1))) ≡ 4294967295
   pub m11-sub : (c : Configuration.Config) → value c (SUB (LEAF (CONST 3)) (LEAF (CONST 5))) ≡ 0

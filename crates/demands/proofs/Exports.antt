@@ -5,7 +5,7 @@ use mathlib.Core.List.{List}
 use native.Mathlib.Omega.{arith}
 use lib.ListN.{length}
 use Rattle.refusal.specs.declared.Refusal.{Refusal}
-use Rattle.refusal.specs.declared.Refusal.the-variants.{CutShort, Foreign, Value, Surplus, Leftover, StepBack, DeadStart, Unbound, Outside, Short, Crowded, Twice}
+use Rattle.refusal.specs.declared.Refusal.the-variants.{CutShort, Foreign, Value, Surplus, Leftover, StepBack, DeadStart, Unbound, Outside, Short, Crowded, Twice, AbsentState}
 use Rattle.refusal.specs.Refusals.{reportOf, NotCrowded}
 use Rattle.search.specs.declared.Verdict.{Verdict}
 use Rattle.search.specs.declared.Verdict.the-variants as SearchIs
@@ -32,6 +32,7 @@ numbered (Outside s) h = (λ e. omega (arith, e), λ e. omega (arith, e))
 numbered (Short n) h = (λ e. omega (arith, e), λ e. omega (arith, e))
 numbered (Crowded p) h = absurd (h p refl)
 numbered (Twice p) h = (λ e. omega (arith, e), λ e. omega (arith, e))
+numbered (AbsentState p) h = (λ e. omega (arith, e), λ e. omega (arith, e))
 
 module _ (work after : List ℕ) where
   by-search : (v : Verdict) → Untouched (searchRefusal v) work after → (why : Refusal) → v ≡ SearchIs.Refused why → NotCrowded why → after ≡ work

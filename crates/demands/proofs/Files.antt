@@ -70,8 +70,9 @@ formula-told f r why v (FormulaRefusal.leftover h) = FirstOfFile.refused why v (
 formula-told f r why v FormulaRefusal.dead-start = FirstOfFile.refused why v (tell refl refl (omega arith))
 formula-told f r why v (FormulaRefusal.unbound h) = FirstOfFile.refused why v (tell refl refl h)
 formula-told f r why v (FormulaRefusal.twice h) = FirstOfFile.refused why v (tell refl refl h)
+formula-told f r why v (FormulaRefusal.absent-state h) = FirstOfFile.refused why v (tell refl refl h)
 
--- A formula is accepted, or refused with file 2, a number from 1 to 5, 7, 8 or 12, and a place.
+-- A formula is accepted, or refused with file 2, a number from 1 to 5, 7, 8, 12 or 13, and a place.
 pub formula-first : (f : List ℕ) (fields : ℕ) (r : FormulaReading) → FormulaAnswer.ReadsFormula f fields r → FirstOfFormula f r
 unfolding FormulaAnswer.answerOf
 formula-first f fields r reads = go (FormulaRead.readFormula fields f) refl reads

@@ -73,9 +73,9 @@ pub data FirstOfFile (file : ℕ) (allowed : List ℕ) (size : ℕ) (a : Accepta
 abbrev pub FirstOfLog : List ℕ → LogReading → Type 0
 FirstOfLog l r = FirstOfFile 1 (1 ∷ 2 ∷ 3 ∷ 4 ∷ 5 ∷ 6 ∷ []) (length l) (r .acceptance)
 
--- a formula: file 2, a number from 1 to 5, 7, 8 or 12
+-- a formula: file 2, a number from 1 to 5, 7, 8, 12 or 13
 abbrev pub FirstOfFormula : List ℕ → FormulaReading → Type 0
-FirstOfFormula f r = FirstOfFile 2 (1 ∷ 2 ∷ 3 ∷ 4 ∷ 5 ∷ 7 ∷ 8 ∷ 12 ∷ []) (length f) (r .acceptance)
+FirstOfFormula f r = FirstOfFile 2 (1 ∷ 2 ∷ 3 ∷ 4 ∷ 5 ∷ 7 ∷ 8 ∷ 12 ∷ 13 ∷ []) (length f) (r .acceptance)
 
 -- both readers accept; a and b are their answers
 pub record Accepted (l f : List ℕ) (a : LogReading) (b : FormulaReading) : Type 0 where

@@ -227,10 +227,25 @@ leftover-first : read (0x10 ∷ 0 ∷ 0x11 ∷ 5 ∷ 0 ∷ 7 ∷ []) ≡ line 2 
 unfolding read
 leftover-first = refl
 
--- a COUNT that names an absent state, before a dead start
-absent-count : read (0x10 ∷ 0 ∷ 0x11 ∷ 0 ∷ 0x15 ∷ 0x22 ∷ 3 ∷ 0 ∷ []) ≡ line 2 3 5
+-- a COUNT that names an absent state
+absent-count : read (0x10 ∷ 0 ∷ 0x11 ∷ 0 ∷ 0x15 ∷ 0x22 ∷ 3 ∷ 0 ∷ []) ≡ line 2 13 5
 unfolding read
 absent-count = refl
+
+-- one that no file could declare
+absent-255 : read (0x10 ∷ 0 ∷ 0x11 ∷ 0 ∷ 0x15 ∷ 0x22 ∷ 255 ∷ 0 ∷ []) ≡ line 2 13 5
+unfolding read
+absent-255 = refl
+
+-- a STEP, in a state that no path reaches, before a dead start
+absent-target : read (0x10 ∷ 2 ∷ 0x10 ∷ 0 ∷ 0x11 ∷ 2 ∷ 0 ∷ []) ≡ line 2 13 4
+unfolding read
+absent-target = refl
+
+-- the lowest offset decides: a COUNT before the STEP behind it, also before an unbound variable
+absent-first : read (0x10 ∷ 0 ∷ 0x11 ∷ 0 ∷ 0x15 ∷ 0x23 ∷ 0x21 ∷ 0 ∷ 0x22 ∷ 1 ∷ 0x11 ∷ 9 ∷ 0 ∷ []) ≡ line 2 13 8
+unfolding read
+absent-first = refl
 
 -- a dead start is at place 0, also behind TIEDs
 dead-start : read (0x16 ∷ 0 ∷ 0x10 ∷ 2 ∷ 0 ∷ []) ≡ line 2 7 0

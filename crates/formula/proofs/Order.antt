@@ -1,5 +1,5 @@
--- "The first bad command decides; within one the order is 2, 4, 1, 3", 12 "after 4 and 1 and before 3". "After END: 5; then 3 for the first STEP or
--- COUNT naming an absent state; then 7; then 8": each refusal, whatever else is wrong that comes later in this order.
+-- "The first bad command decides; within one the order is 2, 4, 1, 3", 12 "after 4 and 1 and before 3". "After END: 5"; then 13 'absent state', "where 3
+-- stood after 5"; "then 7; then 8": each refusal, whatever else is wrong that comes later in this order.
 use Prim.Native.Nat.{ℕ, zero, suc, _+_, _-_, _<_, _≤_}
 use mathlib.Core.Path.{_≡_, refl, sym, subst}
 use mathlib.Core.Logic.{_⊎_, inl, inr}
@@ -12,7 +12,7 @@ use lib.Dec.{ltb}
 use lib.ListN.{length, getD}
 use Rattle.base.proofs.Tests.{cond-holds}
 use Rattle.refusal.specs.declared.File.the-variants.{Formula as InFormula}
-use Rattle.refusal.specs.declared.Refusal.the-variants.{CutShort, Foreign, Value, Surplus, Leftover, DeadStart, Unbound as UnboundAt, Twice}
+use Rattle.refusal.specs.declared.Refusal.the-variants.{CutShort, Foreign, Value, Surplus, Leftover, DeadStart, Unbound as UnboundAt, Twice, AbsentState}
 use Rattle.formula.specs.Formula.{GATHER, Formula}
 use Rattle.formula.specs.Encode.{Command, CLAUSE, commands}
 use Rattle.formula.specs.Unbound.{isUnbound}
@@ -138,8 +138,8 @@ module _ (f : Formula) (at : ℕ) where
   unfolding afterEnd
   leftover-first b bs = refl
 
-  -- 3: "the first STEP or COUNT naming an absent state"
-  pub then-absent : (p : ℕ) → firstAbsent (length (f .states)) 0 (commands f) ≡ some p → afterEnd f at [] ≡ refused (Value InFormula p)
+  -- 13: "the first STEP or COUNT naming an absent state"
+  pub then-absent : (p : ℕ) → firstAbsent (length (f .states)) 0 (commands f) ≡ some p → afterEnd f at [] ≡ refused (AbsentState p)
   unfolding afterEnd judge
   then-absent p a = rw a
 

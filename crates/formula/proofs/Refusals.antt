@@ -1,4 +1,4 @@
--- What a formula is refused with: one of the refusals 1 to 5, 7, 8 and 12, of the formula, at a place in the file or at its end.
+-- What a formula is refused with: one of the refusals 1 to 5, 7, 8, 12 and 13, of the formula, at a place in the file or at its end.
 use Prim.Native.Nat.{ℕ, zero, suc, _+_, _-_, _≤_}
 use mathlib.Core.Path.{_≡_, refl, ap, subst, _∙_}
 use mathlib.Core.Bool.{Bool, true, false, cond, not, _&&_}
@@ -13,7 +13,7 @@ use Rattle.base.proofs.Lists.{flatMap-append}
 use Rattle.base.specs.Value.{bytesOf, valueAt}
 use Rattle.refusal.specs.declared.File.the-variants.{Formula as InFormula}
 use Rattle.refusal.specs.declared.Refusal.{Refusal}
-use Rattle.refusal.specs.declared.Refusal.the-variants.{CutShort, Foreign, Value, Surplus, Leftover, DeadStart, Unbound as UnboundAt, Twice}
+use Rattle.refusal.specs.declared.Refusal.the-variants.{CutShort, Foreign, Value, Surplus, Leftover, DeadStart, Unbound as UnboundAt, Twice, AbsentState}
 use Rattle.formula.specs.Formula.{Leaf, Expr, LEAF, ADD, SUB, LESS, ATMOST, EQUAL, NOT, AND, OR, IF, Clause, TEST, TESTV, BIND, GATHER, Formula}
 use Rattle.formula.specs.Encode.{Command, TIED, STATE, STEP, CLAUSE, GUARD, guardCommands, stepCommands, stateCommands, commands, encodeExpr}
 use Rattle.formula.specs.Encode.{encodeClause, encodeCommand}
@@ -41,6 +41,7 @@ pub data FormulaRefusal (n : ℕ) : Refusal → Type 0 where
   dead-start : FormulaRefusal n DeadStart
   unbound : {p : ℕ} → p ≤ n → FormulaRefusal n (UnboundAt p)
   twice : {p : ℕ} → p ≤ n → FormulaRefusal n (Twice p)
+  absent-state : {p : ℕ} → p ≤ n → FormulaRefusal n (AbsentState p)
 
 -- an expression of a list has two bytes, one with operands one byte more than they have
 abbrev OneMore : ExprOpcode → Type 0
@@ -339,7 +340,7 @@ module _ (n : ℕ) where
   judge-answers : (f : Formula) → bytesIn (commands f) ≤ n → Answers (judge f)
   unfolding judge
   judge-answers f h =
-      refused-answers (Value InFormula) _ (first-absent-within n (length (f .states)) 0 (commands f) (omega arith)) (λ p k. value k)
+      refused-answers AbsentState _ (first-absent-within n (length (f .states)) 0 (commands f) (omega arith)) (λ p k. absent-state k)
       (cond-holds Answers (deadStart (f .states)) _ _ (λ e. dead-start)
       (λ e. refused-answers UnboundAt _ (first-unbound-within n (isUnbound f) 0 [] 0 (commands f) (omega arith)) (λ p k. unbound k) tt))
 

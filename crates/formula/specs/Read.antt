@@ -1,5 +1,5 @@
 -- Reading a formula file: "Files are read from the front and the first bad command decides; within one the order is 2, 4, 1, 3", 12
--- "after 4 and 1 and before 3". "After END: 5; then 3 for the first STEP or COUNT naming an absent state; then 7; then 8".
+-- "after 4 and 1 and before 3". "After END: 5"; then 13 'absent state', "where 3 stood after 5"; "then 7; then 8".
 use Prim.Native.Nat.{ℕ, zero, suc, _+_, _-_}
 use mathlib.Core.Bool.{Bool, true, false, cond, not, _&&_}
 use mathlib.Core.List.{List, [], _∷_, _++_}
@@ -9,7 +9,7 @@ use lib.ListN.{length, getD, drop, replicate}
 use Rattle.base.specs.Value.{valueAt}
 use Rattle.refusal.specs.declared.File.the-variants.{Formula as InFormula}
 use Rattle.refusal.specs.declared.Refusal.{Refusal}
-use Rattle.refusal.specs.declared.Refusal.the-variants.{CutShort, Foreign, Value, Surplus, Leftover, DeadStart, Unbound as UnboundAt, Twice}
+use Rattle.refusal.specs.declared.Refusal.the-variants.{CutShort, Foreign, Value, Surplus, Leftover, DeadStart, Unbound as UnboundAt, Twice, AbsentState}
 use Rattle.formula.specs.declared.Summary.{Summary}
 use Rattle.formula.specs.declared.Opcode.{Opcode}
 use Rattle.formula.specs.declared.Opcode.the-variants.{End as end-op, State as state-op, Step as step-op, Test as test-op, Testv as testv-op}
@@ -378,10 +378,10 @@ abbrev pub refusedAt : Option ℕ → (ℕ → Refusal) → Reading → Reading
 refusedAt none r go-on = go-on
 refusedAt (some p) r go-on = refused (r p)
 
--- "then 3 for the first STEP or COUNT naming an absent state; then 7; then 8"
+-- 13 'absent state', "where 3 stood after 5", for "the first STEP or COUNT naming an absent state"; "then 7; then 8"
 unfoldable pub judge : Formula → Reading
 judge f =
-    refusedAt (firstAbsent (length (f .states)) 0 (commands f)) (Value InFormula)
+    refusedAt (firstAbsent (length (f .states)) 0 (commands f)) AbsentState
     (cond (deadStart (f .states)) (refused DeadStart) (refusedAt (firstUnbound (isUnbound f) 0 [] 0 (commands f)) UnboundAt (accepted f)))
 
 -- "After END: 5": the bytes behind END, which begin at `at`

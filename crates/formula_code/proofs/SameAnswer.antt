@@ -15,7 +15,7 @@ use Rattle.base.specs.Lists.{Bytes, pad}
 use Rattle.base.specs.Mask.{mask}
 use Rattle.refusal.specs.declared.File.the-variants.{Formula as InFormula}
 use Rattle.refusal.specs.declared.Refusal.{Refusal}
-use Rattle.refusal.specs.declared.Refusal.the-variants.{Value, Leftover, DeadStart, Unbound as UnboundAt}
+use Rattle.refusal.specs.declared.Refusal.the-variants.{Leftover, DeadStart, Unbound as UnboundAt, AbsentState}
 use Rattle.refusal.specs.declared.Acceptance.{Acceptance}
 use Rattle.refusal.specs.declared.Acceptance.the-variants.{Accepted, Refused}
 use Rattle.refusal.specs.inner.Acceptance.{refusalOf}
@@ -110,9 +110,9 @@ found (some p) h = lt-ltb p nowhere h
 
 -- the answer of the definition's order: absent, dead start, unbound
 judged : (d : Draft) (f : Formula) (x y : Option ℕ) (b : Bool) → acceptedWith d ≡ answerOf (accepted f)
-    → cond (given x) (answerOf (refused (Value InFormula (num x))))
+    → cond (given x) (answerOf (refused (AbsentState (num x))))
     (cond b (answerOf (refused DeadStart)) (cond (given y) (answerOf (refused (UnboundAt (num y)))) (acceptedWith d)))
-    ≡ answerOf (refusedAt x (Value InFormula) (cond b (refused DeadStart) (refusedAt y UnboundAt (accepted f))))
+    ≡ answerOf (refusedAt x AbsentState (cond b (refused DeadStart) (refusedAt y UnboundAt (accepted f))))
 judged d f (some p) y b e = refl
 judged d f none y true e = refl
 judged d f none (some p) false e = refl

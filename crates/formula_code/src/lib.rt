@@ -186,10 +186,7 @@ fn judge_with(d: Draft, absent: usize, unbound: usize) -> FormulaReading
     ensures { λ a. ⌜ a ≡ judgedWith d absent unbound ⌝ }
 {
     if absent < NOWHERE {
-        return refused_with(Refusal::Value {
-            file: File::Formula,
-            place: absent,
-        });
+        return refused_with(Refusal::AbsentState { place: absent });
     }
     if 1 < d.kinds[0] {
         return refused_with(Refusal::DeadStart);

@@ -4,7 +4,7 @@ use mathlib.Core.Path.{_≡_}
 use Rattle.refusal.specs.declared.File.{File}
 use Rattle.refusal.specs.declared.File.the-variants.{Log, Formula}
 use Rattle.refusal.specs.declared.Refusal.{Refusal}
-use Rattle.refusal.specs.declared.Refusal.the-variants.{CutShort, Foreign, Value, Surplus, Leftover, StepBack, DeadStart, Unbound, Outside, Short, Crowded, Twice}
+use Rattle.refusal.specs.declared.Refusal.the-variants.{CutShort, Foreign, Value, Surplus, Leftover, StepBack, DeadStart, Unbound, Outside, Short, Crowded, Twice, AbsentState}
 use Rattle.refusal.specs.declared.Report.{Report}
 
 -- "the file (1 log, 2 formula, 3 the call)": the two that are files; the lines of the call's refusals say 3 themselves
@@ -30,6 +30,7 @@ reportOf (Outside s) = line 3 9 s
 reportOf (Short n) = line 3 10 n
 reportOf (Crowded p) = line 3 11 p
 reportOf (Twice p) = line 2 12 p
+reportOf (AbsentState p) = line 2 13 p
 
 -- any refusal but 11: a check refuses, and nothing has run
 abbrev pub NotCrowded : Refusal → Type 0

@@ -15,7 +15,7 @@ pub enum Refusal {
     CutShort { file: File, place: usize },
     // 2: unknown command, or one not allowed there
     Foreign { file: File, place: usize },
-    // 3: a kind, operator, field, variable or state that does not exist
+    // 3: a kind, operator, field or variable that does not exist
     Value { file: File, place: usize },
     // 4: one over a stated count or depth
     Surplus { file: File, place: usize },
@@ -35,6 +35,8 @@ pub enum Refusal {
     Crowded { place: usize },
     // 12: one STEP gathers a variable a second time
     Twice { place: usize },
+    // 13: a STEP or COUNT names a state that the file does not declare
+    AbsentState { place: usize },
 }
 
 // Whether a file is accepted.
@@ -88,6 +90,7 @@ pub fn report_of(r: Refusal) -> Report
         Refusal::Short { needed } => line(3, 10, needed),
         Refusal::Crowded { place } => line(3, 11, place),
         Refusal::Twice { place } => line(2, 12, place),
+        Refusal::AbsentState { place } => line(2, 13, place),
     }
 }
 

@@ -18,6 +18,7 @@ pub const OUTSIDE: u32 = 9;
 pub const SHORT: u32 = 10;
 pub const CROWDED: u32 = 11;
 pub const TWICE: u32 = 12;
+pub const ABSENT_STATE: u32 = 13;
 
 #[derive(Clone, Copy, Debug, PartialEq, Eq, PartialOrd, Ord)]
 pub struct Refusal {

@@ -96,7 +96,7 @@ fn m9_unbound() {
 #[test]
 fn m10_absent_target() {
     let far = hex(&F.replace("1101", "1105"));
-    assert_eq!(refused(&hex(L), &far, 0, SEAT), (2, 3, 2));
+    assert_eq!(refused(&hex(L), &far, 0, SEAT), (2, 13, 2));
 }
 
 /// The value of an expression alone.

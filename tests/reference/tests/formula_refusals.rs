@@ -246,15 +246,15 @@ fn values_that_do_not_exist() {
 
 #[test]
 fn absent_states_wait_until_behind_end() {
-    assert_eq!(refused_text("1000 1101 00"), (2, 3, 2));
-    assert_eq!(refused_text("1000 11FF 00"), (2, 3, 2));
-    assert_eq!(refused_text("1000 1100 15 22FF 00"), (2, 3, 5));
+    assert_eq!(refused_text("1000 1101 00"), (2, 13, 2));
+    assert_eq!(refused_text("1000 11FF 00"), (2, 13, 2));
+    assert_eq!(refused_text("1000 1100 15 22FF 00"), (2, 13, 5));
     // The lowest place decides: a COUNT or a STEP.
-    assert_eq!(refused_text("1000 1100 15 2207 1109 00"), (2, 3, 5));
-    assert_eq!(refused_text("1000 1109 15 2207 00"), (2, 3, 2));
+    assert_eq!(refused_text("1000 1100 15 2207 1109 00"), (2, 13, 5));
+    assert_eq!(refused_text("1000 1109 15 2207 00"), (2, 13, 2));
     assert_eq!(
         refused_text("1000 1100 15 2B 2200 2201 2202 1109 00"),
-        (2, 3, 8)
+        (2, 13, 8)
     );
     // A later bad command decides, and a leftover too.
     assert_eq!(refused_text("1000 1109 18 00"), (2, 2, 4));
@@ -263,7 +263,7 @@ fn absent_states_wait_until_behind_end() {
     // A state declared later is there.
     assert!(outcome(hex("1000 1101 15 2201 1002 00")).is_ok());
     // Also in a state that no path reaches.
-    assert_eq!(refused_text("1000 1000 1109 00"), (2, 3, 4));
+    assert_eq!(refused_text("1000 1000 1109 00"), (2, 13, 4));
 }
 
 #[test]
@@ -273,6 +273,6 @@ fn a_dead_start() {
     assert_eq!(refused_text("1600 1601 1002 00"), (2, 7, 0));
     // Behind leftover and absent states, before unbound.
     assert_eq!(refused_text("1002 00 00"), (2, 5, 3));
-    assert_eq!(refused_text("1002 1000 1105 00"), (2, 3, 4));
+    assert_eq!(refused_text("1002 1000 1105 00"), (2, 13, 4));
     assert_eq!(refused_text("1002 1000 1100 13000000 00"), (2, 7, 0));
 }

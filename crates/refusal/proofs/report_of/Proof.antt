@@ -90,6 +90,12 @@ enum-known-r-11 c = search needs
 line-requires-12 : tie.Need-line-requires-12
 line-requires-12 c κs = search needs
 
+enum-known-r-12 : tie.Need-enum-known-r-12
+enum-known-r-12 c = search needs
+
+line-requires-13 : tie.Need-line-requires-13
+line-requires-13 c κs = search needs
+
 returns : tie.Need-returns
 returns c =
     let c3 = c .before .before .before in
@@ -136,6 +142,9 @@ returns-11 c = rw (c .line11 .ensures, c .before .before .r10 .given .1)
 returns-12 : tie.Need-returns-12
 returns-12 c = rw (c .line12 .ensures, c .before .before .r11 .given .1)
 
+returns-13 : tie.Need-returns-13
+returns-13 c = rw (c .line13 .ensures, c .before .before .r12 .given .1)
+
 pub report-of-spec : {M : Type 1} → statement M
 report-of-spec =
     tie.close
@@ -169,6 +178,8 @@ report-of-spec =
     line-requires-11
     enum-known-r-11
     line-requires-12
+    enum-known-r-12
+    line-requires-13
     returns
     returns-2
     returns-3
@@ -180,4 +191,5 @@ report-of-spec =
     returns-9
     returns-10
     returns-11
-    returns-12)
+    returns-12
+    returns-13)

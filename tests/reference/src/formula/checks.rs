@@ -1,13 +1,13 @@
 //! The checks behind END: absent states, a dead start, unbound variables.
 
 use super::{Expression, Formula, Right, Step, VARIABLES};
-use crate::refusal::{Refusal, DEAD_START, FORMULA, UNBOUND, VALUE};
+use crate::refusal::{Refusal, ABSENT_STATE, DEAD_START, FORMULA, UNBOUND};
 
 type Held = [bool; VARIABLES];
 
 pub fn check(formula: &Formula) -> Result<(), Refusal> {
     if let Some(place) = first_absent(formula) {
-        return Err(Refusal::new(FORMULA, VALUE, place));
+        return Err(Refusal::new(FORMULA, ABSENT_STATE, place));
     }
     if formula.states[0].kind.ends() {
         return Err(Refusal::new(FORMULA, DEAD_START, 0));
