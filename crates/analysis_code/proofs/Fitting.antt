@@ -24,15 +24,15 @@ use Rattle.search_code.specs.inner.Turn.{Given}
 use Rattle.analysis_code.specs.inner.Starts.{Fitting}
 
 -- every TIED names one of the 8 variables
-tied-variables : (fields states : ℕ) (ws : List ℕ) → All (Exists fields states) (map TIED ws) → All (λ v. v < 8) ws
-tied-variables fields states [] h = tt
-tied-variables fields states (w ∷ ws) h = (h .0, tied-variables fields states ws (h .1))
+tied-variables : (fields : ℕ) (ws : List ℕ) → All (Exists fields) (map TIED ws) → All (λ v. v < 8) ws
+tied-variables fields [] h = tt
+tied-variables fields (w ∷ ws) h = (h .0, tied-variables fields ws (h .1))
 
 pub tied-exist : (g : Log) (fm : Formula) → FormulaCorrect.Correct (length (g .fields)) fm → All (λ v. v < 8) (fm .tied)
 unfolding commands
 tied-exist g fm ok =
-    tied-variables (length (g .fields)) (length (fm .states)) (fm .tied)
-    (all-left (Exists (length (g .fields)) (length (fm .states))) (map TIED (fm .tied)) (flatMap stateCommands (fm .states)) (ok .values))
+    tied-variables (length (g .fields)) (fm .tied)
+    (all-left (Exists (length (g .fields))) (map TIED (fm .tied)) (flatMap stateCommands (fm .states)) (ok .formed .values))
 
 module _ (g : Log) (fm : Formula) (log : LogCorrect.Recorded g) (formula : FormulaCorrect.Correct (length (g .fields)) fm) where
   demand-fits : (slots i : ℕ) (a : Answer (machine g fm)) → Demand (machine g fm) slots i a → Fitting g fm a

@@ -25,7 +25,7 @@ use Rattle.exports.specs.declared.Refused.{Refused}
 use Rattle.exports.specs.declared.LogRead.{LogRead}
 use Rattle.exports.specs.declared.Found.{Found}
 use Rattle.exports.specs.Exports.{ExportsLog, ExportsFormula, ExportsSearch, ExportsAnalysis}
-use Rattle.demands.specs.Demands.{IsLog, IsFormula, FirstOfLog, FirstOfFormula, FirstOfSearch, FirstOfAnalysis}
+use Rattle.demands.specs.Demands.{IsLog, IsFormula, FirstOfLog, FirstOfFormula, AbsentOfFormula, FirstOfSearch, FirstOfAnalysis}
 use Rattle.demands.specs.Demands.{SecondOfLog, SecondOfFormula, SecondOfSearch, ThirdOfSearch, ThirdOfRows}
 use Rattle.demands.specs.Demands.{HandsOnLog, HandsOnFormula, HandsOnSearch, HandsOnAnalysis}
 use Rattle.demands.proofs.Files as Files
@@ -40,6 +40,10 @@ first-log l r c = Files.log-first l r c
 
 pub first-formula : (f : List ℕ) (fields : ℕ) (r : FormulaReading) → ReadsFormula f fields r → FirstOfFormula f r
 first-formula f fields r c = Files.formula-first f fields r c
+
+-- 13 is answered exactly when a STEP or COUNT of a file that is well formed otherwise names an absent state
+pub absent-formula : (f : List ℕ) (fields : ℕ) (r : FormulaReading) → Bytes f → ReadsFormula f fields r → AbsentOfFormula f fields r
+absent-formula f fields r b c = Files.formula-absent f fields r b c
 
 module _ (l f : List ℕ) where
   -- a call's checks, in order; a refusal leaves every lent word alone

@@ -12,6 +12,7 @@ use lib.ListN.{length, getD, take, drop, take-append-drop}
 use lib.Seq.{length-take-le}
 use Rattle.base.specs.Lists.{Bytes}
 use Rattle.refusal.specs.declared.Refusal.{Refusal}
+use Rattle.refusal.specs.declared.Refusal.the-variants.{AbsentState}
 use Rattle.refusal.specs.declared.Acceptance.the-variants as FileIs
 use Rattle.refusal.specs.Refusals.{reportOf}
 use Rattle.event_log.specs.declared.LogReading.{LogReading}
@@ -28,13 +29,15 @@ use Rattle.formula.specs.Formula.{Formula}
 use Rattle.formula.specs.Read as FormulaRead
 use Rattle.formula.proofs.Basics.{all-left}
 use Rattle.formula.proofs.Reading as FormulaLaws
-use Rattle.formula.proofs.Refusals.{FormulaRefusal, formula-refusal}
+use Rattle.formula.proofs.CommandRefusals.{CommandRefusal}
+use Rattle.formula.proofs.Refusals.{FormulaRefusal, of-command, formula-refusal}
+use Rattle.formula.proofs.Absent.{absent-there, absent-lowest, absent-answered}
 use Rattle.formula_code.specs.declared.FormulaReading.{FormulaReading}
 use Rattle.formula_code.specs.Answer as FormulaAnswer
-use Rattle.formula_code.proofs.Answers.{formula-taken}
+use Rattle.formula_code.proofs.Answers.{formula-taken, formula-refused}
 use Rattle.runs.specs.inner.Lists.{has}
 use Rattle.runs.proofs.Lists.{has-in}
-use Rattle.demands.specs.Demands.{IsLog, IsFormula, Told, FirstOfFile, FirstOfLog, FirstOfFormula, SomeLog, SomeFormula, Recorded, SecondOfLog, SecondOfFormula}
+use Rattle.demands.specs.Demands.{IsLog, IsFormula, Told, FirstOfFile, FirstOfLog, FirstOfFormula, AbsentOfFormula, SomeLog, SomeFormula, Recorded, SecondOfLog, SecondOfFormula}
 
 -- FIRST DEMAND
 
@@ -62,14 +65,14 @@ log-first l r reads = go (LogRead.readLog l) refl reads
 
 formula-told : (f : List ℕ) (r : FormulaReading) (why : Refusal) → r .acceptance ≡ FileIs.Refused why → FormulaRefusal (length f) why → FirstOfFormula f r
 unfolding has
-formula-told f r why v (FormulaRefusal.cut-short h) = FirstOfFile.refused why v (tell refl refl h)
-formula-told f r why v (FormulaRefusal.foreign h) = FirstOfFile.refused why v (tell refl refl h)
-formula-told f r why v (FormulaRefusal.value h) = FirstOfFile.refused why v (tell refl refl h)
-formula-told f r why v (FormulaRefusal.surplus h) = FirstOfFile.refused why v (tell refl refl h)
+formula-told f r why v (of-command (CommandRefusal.cut-short h)) = FirstOfFile.refused why v (tell refl refl h)
+formula-told f r why v (of-command (CommandRefusal.foreign h)) = FirstOfFile.refused why v (tell refl refl h)
+formula-told f r why v (of-command (CommandRefusal.value h)) = FirstOfFile.refused why v (tell refl refl h)
+formula-told f r why v (of-command (CommandRefusal.surplus h)) = FirstOfFile.refused why v (tell refl refl h)
 formula-told f r why v (FormulaRefusal.leftover h) = FirstOfFile.refused why v (tell refl refl h)
 formula-told f r why v FormulaRefusal.dead-start = FirstOfFile.refused why v (tell refl refl (omega arith))
 formula-told f r why v (FormulaRefusal.unbound h) = FirstOfFile.refused why v (tell refl refl h)
-formula-told f r why v (FormulaRefusal.twice h) = FirstOfFile.refused why v (tell refl refl h)
+formula-told f r why v (of-command (CommandRefusal.twice h)) = FirstOfFile.refused why v (tell refl refl h)
 formula-told f r why v (FormulaRefusal.absent-state h) = FirstOfFile.refused why v (tell refl refl h)
 
 -- A formula is accepted, or refused with file 2, a number from 1 to 5, 7, 8, 12 or 13, and a place.
@@ -80,6 +83,25 @@ formula-first f fields r reads = go (FormulaRead.readFormula fields f) refl read
     go : (x : FormulaRead.Reading) → FormulaRead.readFormula fields f ≡ x → r ≡ FormulaAnswer.answerOf x → FirstOfFormula f r
     go (FormulaRead.accepted g) q a = FirstOfFile.accepted (ap (λ (s : FormulaReading). s .acceptance) a)
     go (FormulaRead.refused why) q a = formula-told f r why (ap (λ (s : FormulaReading). s .acceptance) a) (formula-refusal fields f why q)
+
+-- A formula is refused with 13 exactly when it is well formed up to END, nothing is left over, and it has an absent state; the place is the first.
+pub formula-absent : (f : List ℕ) (fields : ℕ) (r : FormulaReading) → Bytes f → FormulaAnswer.ReadsFormula f fields r → AbsentOfFormula f fields r
+unfolding FormulaAnswer.answerOf
+formula-absent f fields r bytes reads =
+    record {
+      exactly = (
+        λ s. record { place = s .place; is = absent-there fields f bytes (s .place) (refused-so (s .place) (s .says)) },
+        λ s.
+        let a = absent-answered fields f (s .place) (s .is) in
+        record { place = a .0; says = ap (λ (x : FormulaReading). x .acceptance) (reads ∙ ap FormulaAnswer.answerOf (a .1)) },
+      );
+      there = λ p e. absent-there fields f bytes p (refused-so p e);
+      first = λ p q e. absent-lowest fields f p q (refused-so p e);
+    }
+  where
+    refused-so : (p : ℕ) → r .acceptance ≡ FileIs.Refused (AbsentState p) → FormulaRead.readFormula fields f ≡ FormulaRead.refused (AbsentState p)
+    refused-so p e =
+        formula-refused (FormulaRead.readFormula fields f) (AbsentState p) (ap (λ (x : FormulaReading). x .acceptance) (sym reads) ∙ e)
 
 -- SECOND DEMAND
 

@@ -8,7 +8,7 @@ use mathlib.Core.List.{List, [], _∷_, _++_, flatMap, map}
 use lib.ListN.{length, getD, drop, replicate}
 use Rattle.base.specs.Lists.{All, pad}
 use Rattle.refusal.specs.declared.Refusal.{Refusal}
-use Rattle.refusal.specs.declared.Refusal.the-variants.{Outside, Short, Crowded}
+use Rattle.refusal.specs.declared.Refusal.the-variants.{Outside, Short, Crowded, AbsentState}
 use Rattle.refusal.specs.declared.Acceptance.{Acceptance}
 use Rattle.refusal.specs.declared.Acceptance.the-variants as FileIs
 use Rattle.refusal.specs.Refusals.{reportOf, NotCrowded}
@@ -21,6 +21,7 @@ use Rattle.event_log.specs.Event.{eventPlace}
 use Rattle.event_log.specs.Read.{rises, ReadsLog}
 use Rattle.formula.specs.Formula.{Formula}
 use Rattle.formula.specs.Correct as FormulaCorrect
+use Rattle.formula.specs.Absent.{AbsentAt}
 use Rattle.formula.specs.Encode as FormulaEncode
 use Rattle.formula.specs.Lookup.{stepTable, tiedMask}
 use Rattle.formula_code.specs.declared.FormulaReading.{FormulaReading}
@@ -76,6 +77,22 @@ FirstOfLog l r = FirstOfFile 1 (1 ∷ 2 ∷ 3 ∷ 4 ∷ 5 ∷ 6 ∷ []) (length 
 -- a formula: file 2, a number from 1 to 5, 7, 8, 12 or 13
 abbrev pub FirstOfFormula : List ℕ → FormulaReading → Type 0
 FirstOfFormula f r = FirstOfFile 2 (1 ∷ 2 ∷ 3 ∷ 4 ∷ 5 ∷ 7 ∷ 8 ∷ 12 ∷ 13 ∷ []) (length f) (r .acceptance)
+
+-- 13 'absent state', "A STEP or COUNT naming a state that the file doesn't declare gets its own number"
+pub record SaysAbsentState (a : Acceptance) : Type 0 where
+  pub place : ℕ
+  pub says : a ≡ FileIs.Refused (AbsentState place)
+
+-- the file is well formed up to END, nothing is left over, and some STEP or COUNT names a state that it does not declare
+pub record HasAbsentState (fields : ℕ) (f : List ℕ) : Type 0 where
+  pub place : ℕ
+  pub is : AbsentAt fields f place
+
+pub record AbsentOfFormula (f : List ℕ) (fields : ℕ) (r : FormulaReading) : Type 0 where
+  pub exactly : SaysAbsentState (r .acceptance) ↔ HasAbsentState fields f
+  -- "its place is still that command", the first of them
+  pub there : (p : ℕ) → r .acceptance ≡ FileIs.Refused (AbsentState p) → AbsentAt fields f p
+  pub first : (p q : ℕ) → r .acceptance ≡ FileIs.Refused (AbsentState p) → AbsentAt fields f q → p ≤ q
 
 -- both readers accept; a and b are their answers
 pub record Accepted (l f : List ℕ) (a : LogReading) (b : FormulaReading) : Type 0 where

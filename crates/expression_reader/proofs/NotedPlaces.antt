@@ -14,8 +14,8 @@ use lib.Seq.{getD-set-same, getD-set-other}
 use Rattle.formula.specs.Formula.{Leaf, Expr, LEAF, ADD, SUB, LESS, ATMOST, EQUAL, NOT, AND, OR, IF, Clause}
 use Rattle.formula.specs.Encode.{encodeLeaf, encodeExpr}
 use Rattle.formula.specs.Unbound.{binds}
+use Rattle.formula.specs.Correct.{Leaves, LeafExists}
 use Rattle.formula.specs.Read.{orElse, when, firstLeaf}
-use Rattle.formula.proofs.Exprs.{LeafReads, LeavesExist}
 use Rattle.expression_reader.specs.inner.Places.{nowhere, noted, stateKey, varNoted, leafNoted, leavesNoted, lowestFrom}
 
 -- the number of a place, above all places if there is none
@@ -189,7 +189,7 @@ module _ (look : ℕ → Bool) (s : ℕ) (own : List Bool) where
   unfolding varNoted
   var-notes v u b e m k low = rw m (var-reads look (v * 16 + s) u b e (omega arith))
 
-  module _ (bad : Leaf → Bool) (leaf : (l : Leaf) → LeafReads l → LeafNotes bad l) where
+  module _ (bad : Leaf → Bool) (leaf : (l : Leaf) → LeafExists l → LeafNotes bad l) where
     abbrev Notes : Expr → Type 0
     Notes e = Reads look (length (encodeExpr e)) (λ at t. leavesNoted s own at e t) (λ at. firstLeaf bad at e)
 
@@ -201,7 +201,7 @@ module _ (look : ℕ → Bool) (s : ℕ) (own : List Bool) where
     pair a b f g = rw (length-append (encodeExpr a) (encodeExpr b)) (behind look (then look f g))
 
     -- the leaves of an expression are noted
-    pub expr-reads : (e : Expr) → LeavesExist e → Notes e
+    pub expr-reads : (e : Expr) → Leaves LeafExists e → Notes e
     unfolding encodeExpr firstLeaf leavesNoted
     expr-reads (LEAF l) k = leaf l k
     expr-reads (ADD a b) k = pair a b (expr-reads a (k .0)) (expr-reads b (k .1))

@@ -16,83 +16,10 @@ use Rattle.formula.specs.Formula.{Clause, TEST, TESTV, BIND, GATHER, Ste
 use Rattle.formula.specs.Encode.{Command, TIED, STATE, STEP, CLAUSE, GUARD, guardCommands, stepCommands, stateCommands, commands, encodeExpr}
 use Rattle.formula.specs.Encode.{encodeCommand}
 use Rattle.formula.specs.Unbound.{binds, Unbound, isUnbound}
-use Rattle.formula.specs.Correct.{Leaves, LeafExists, LeafBound, Exists, ClauseBound, GuardBound, StepBound, AllBound}
+use Rattle.formula.specs.Correct.{Leaves, LeafDeclared, Declared, LeafBound, ClauseBound, GuardBound, StepBound, AllBound}
 use Rattle.formula.specs.Read.{orElse, when, firstLeaf, absentLeaf, absentIn, firstAbsent, unboundLeaf, unboundIn, firstUnbound}
-use Rattle.formula.proofs.Basics.{leaves-both, leaves-map}
-use Rattle.formula.proofs.Exprs.{LeafReads}
-use Rattle.formula.proofs.Commands.{Operands}
+use Rattle.formula.proofs.Basics.{leaves-map}
 use Rattle.formula.proofs.Closure.{unbound-path, path-unbound}
-
--- the states that a leaf and a command name are declared
-abbrev pub LeafDeclared : ℕ → Leaf → Type 0
-LeafDeclared n (CONST x) = Unit {0}
-LeafDeclared n (VAR v) = Unit {0}
-LeafDeclared n (COUNT s) = s < n
-LeafDeclared n (SUM v) = Unit {0}
-LeafDeclared n (LENGTH v) = Unit {0}
-LeafDeclared n (DIFFERENT v) = Unit {0}
-
-abbrev pub Declared : ℕ → Command → Type 0
-Declared n (TIED v) = Unit {0}
-Declared n (STATE k) = Unit {0}
-Declared n (STEP t) = t < n
-Declared n (CLAUSE c) = Unit {0}
-Declared n (GUARD e) = Leaves (LeafDeclared n) e
-
--- what exists: the operands and the named states
-leaf-both : (n : ℕ) (l : Leaf) → LeafReads l → LeafDeclared n l → LeafExists n l
-leaf-both n (CONST x) r d = r
-leaf-both n (VAR v) r d = r
-leaf-both n (COUNT s) r d = d
-leaf-both n (SUM v) r d = r
-leaf-both n (LENGTH v) r d = r
-leaf-both n (DIFFERENT v) r d = r
-
-leaf-reads : (n : ℕ) (l : Leaf) → LeafExists n l → LeafReads l
-leaf-reads n (CONST x) h = h
-leaf-reads n (VAR v) h = h
-leaf-reads n (COUNT s) h = tt
-leaf-reads n (SUM v) h = h
-leaf-reads n (LENGTH v) h = h
-leaf-reads n (DIFFERENT v) h = h
-
-leaf-declared : (n : ℕ) (l : Leaf) → LeafExists n l → LeafDeclared n l
-leaf-declared n (CONST x) h = tt
-leaf-declared n (VAR v) h = tt
-leaf-declared n (COUNT s) h = h
-leaf-declared n (SUM v) h = tt
-leaf-declared n (LENGTH v) h = tt
-leaf-declared n (DIFFERENT v) h = tt
-
-pub exists-both : (fields n : ℕ) (c : Command) → Operands fields c → Declared n c → Exists fields n c
-exists-both fields n (TIED v) o d = o
-exists-both fields n (STATE k) o d = tt
-exists-both fields n (STEP t) o d = d
-exists-both fields n (CLAUSE (TEST f p v)) o d = o
-exists-both fields n (CLAUSE (TESTV f p v)) o d = o
-exists-both fields n (CLAUSE (BIND f v)) o d = o
-exists-both fields n (CLAUSE (GATHER f v)) o d = o
-exists-both fields n (GUARD e) o d = leaves-both LeafReads (LeafDeclared n) (LeafExists n) (leaf-both n) e o d
-
-pub exists-operands : (fields n : ℕ) (c : Command) → Exists fields n c → Operands fields c
-exists-operands fields n (TIED v) x = x
-exists-operands fields n (STATE k) x = tt
-exists-operands fields n (STEP t) x = tt
-exists-operands fields n (CLAUSE (TEST f p v)) x = x
-exists-operands fields n (CLAUSE (TESTV f p v)) x = x
-exists-operands fields n (CLAUSE (BIND f v)) x = x
-exists-operands fields n (CLAUSE (GATHER f v)) x = x
-exists-operands fields n (GUARD e) x = leaves-map (LeafExists n) LeafReads (leaf-reads n) e x
-
-pub exists-declared : (fields n : ℕ) (c : Command) → Exists fields n c → Declared n c
-exists-declared fields n (TIED v) x = tt
-exists-declared fields n (STATE k) x = tt
-exists-declared fields n (STEP t) x = x
-exists-declared fields n (CLAUSE (TEST f p v)) x = tt
-exists-declared fields n (CLAUSE (TESTV f p v)) x = tt
-exists-declared fields n (CLAUSE (BIND f v)) x = tt
-exists-declared fields n (CLAUSE (GATHER f v)) x = tt
-exists-declared fields n (GUARD e) x = leaves-map (LeafExists n) (LeafDeclared n) (leaf-declared n) e x
 
 -- neither of two places is there exactly when none is
 else-left : (p q : Option ℕ) → orElse p q ≡ none → p ≡ none
@@ -160,7 +87,7 @@ leaf-none p at (IF c a b) g =
     (leaf-none p (at + 1 + length (encodeExpr c) + length (encodeExpr a)) b (g .2)))
 
 -- nothing absent in one leaf, and in one command
-absent-leaf : (n : ℕ) (l : Leaf) → absentLeaf n l ≡ false → LeafDeclared n l
+pub absent-leaf : (n : ℕ) (l : Leaf) → absentLeaf n l ≡ false → LeafDeclared n l
 absent-leaf n (CONST x) e = tt
 absent-leaf n (VAR v) e = tt
 absent-leaf n (COUNT s) e = ltb-true s n (not-false (ltb s n) e)
@@ -168,7 +95,7 @@ absent-leaf n (SUM v) e = tt
 absent-leaf n (LENGTH v) e = tt
 absent-leaf n (DIFFERENT v) e = tt
 
-declared-leaf : (n : ℕ) (l : Leaf) → LeafDeclared n l → absentLeaf n l ≡ false
+pub declared-leaf : (n : ℕ) (l : Leaf) → LeafDeclared n l → absentLeaf n l ≡ false
 declared-leaf n (CONST x) d = refl
 declared-leaf n (VAR v) d = refl
 declared-leaf n (COUNT s) d = rw (lt-ltb s n d)

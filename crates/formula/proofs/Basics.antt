@@ -42,28 +42,20 @@ list-number v = omega arith
 pub list-named : (v : ℕ) → ListVariable v → isList (listByte v) ≡ true
 list-named v h = rw (le-leb 8 (listByte v) (omega arith), lt-ltb (listByte v) 12 (omega arith))
 
--- properties of the leaves, put together leaf by leaf
-pub leaves-both : (P Q R : Leaf → Type 0) → ((l : Leaf) → P l → Q l → R l) → (e : Expr) → Leaves P e → Leaves Q e → Leaves R e
-leaves-both P Q R f (LEAF l) x y = f l x y
-leaves-both P Q R f (ADD a b) x y = (leaves-both P Q R f a (x .0) (y .0), leaves-both P Q R f b (x .1) (y .1))
-leaves-both P Q R f (SUB a b) x y = (leaves-both P Q R f a (x .0) (y .0), leaves-both P Q R f b (x .1) (y .1))
-leaves-both P Q R f (LESS a b) x y = (leaves-both P Q R f a (x .0) (y .0), leaves-both P Q R f b (x .1) (y .1))
-leaves-both P Q R f (ATMOST a b) x y = (leaves-both P Q R f a (x .0) (y .0), leaves-both P Q R f b (x .1) (y .1))
-leaves-both P Q R f (EQUAL a b) x y = (leaves-both P Q R f a (x .0) (y .0), leaves-both P Q R f b (x .1) (y .1))
-leaves-both P Q R f (NOT a) x y = leaves-both P Q R f a x y
-leaves-both P Q R f (AND a b) x y = (leaves-both P Q R f a (x .0) (y .0), leaves-both P Q R f b (x .1) (y .1))
-leaves-both P Q R f (OR a b) x y = (leaves-both P Q R f a (x .0) (y .0), leaves-both P Q R f b (x .1) (y .1))
-leaves-both P Q R f (IF c a b) x y = (leaves-both P Q R f c (x .0) (y .0), leaves-both P Q R f a (x .1) (y .1), leaves-both P Q R f b (x .2) (y .2))
-
 -- a property of each leaf, from leaf to leaf
 pub leaves-map : (P Q : Leaf → Type 0) → ((l : Leaf) → P l → Q l) → (e : Expr) → Leaves P e → Leaves Q e
-leaves-map P Q f e x = leaves-both P P Q (λ l a b. f l a) e x x
+leaves-map P Q f (LEAF l) x = f l x
+leaves-map P Q f (ADD a b) x = (leaves-map P Q f a (x .0), leaves-map P Q f b (x .1))
+leaves-map P Q f (SUB a b) x = (leaves-map P Q f a (x .0), leaves-map P Q f b (x .1))
+leaves-map P Q f (LESS a b) x = (leaves-map P Q f a (x .0), leaves-map P Q f b (x .1))
+leaves-map P Q f (ATMOST a b) x = (leaves-map P Q f a (x .0), leaves-map P Q f b (x .1))
+leaves-map P Q f (EQUAL a b) x = (leaves-map P Q f a (x .0), leaves-map P Q f b (x .1))
+leaves-map P Q f (NOT a) x = leaves-map P Q f a x
+leaves-map P Q f (AND a b) x = (leaves-map P Q f a (x .0), leaves-map P Q f b (x .1))
+leaves-map P Q f (OR a b) x = (leaves-map P Q f a (x .0), leaves-map P Q f b (x .1))
+leaves-map P Q f (IF c a b) x = (leaves-map P Q f c (x .0), leaves-map P Q f a (x .1), leaves-map P Q f b (x .2))
 
--- a property of all elements, from element to element, and of a list in two parts
-pub all-both {ℓ} : {A : Type ℓ} (P Q R : A → Type 0) → ((x : A) → P x → Q x → R x) → (xs : List A) → All P xs → All Q xs → All R xs
-all-both P Q R f [] p q = tt
-all-both P Q R f (x ∷ xs) p q = (f x (p .0) (q .0), all-both P Q R f xs (p .1) (q .1))
-
+-- a property of all elements of a list in two parts
 pub all-left {ℓ} : {A : Type ℓ} (P : A → Type 0) (xs ys : List A) → All P (xs ++ ys) → All P xs
 all-left P [] ys p = tt
 all-left P (x ∷ xs) ys p = (p .0, all-left P xs ys (p .1))

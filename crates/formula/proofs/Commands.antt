@@ -15,7 +15,7 @@ use Rattle.formula.specs.Formula.{Operator, equal, unequal, less, greate
 use Rattle.formula.specs.Formula.{ordinary, committed, accept, reject}
 use Rattle.formula.specs.Encode.{Command, TIED, STATE, STEP, CLAUSE, GUARD, encodeExpr, encodeClause, encodeCommand, operatorByte, kindByte}
 use Rattle.formula.specs.Encode.{listByte}
-use Rattle.formula.specs.Correct.{size, depth, Value, Variable, ListVariable, Fresh}
+use Rattle.formula.specs.Correct.{size, depth, Exists, Fresh}
 use Rattle.formula.specs.declared.Summary.{Summary}
 use Rattle.formula.specs.declared.Opcode.{Opcode}
 use Rattle.formula.specs.declared.Opcode.the-variants.{End as end-op, State as state-op, Step as step-op, Test as test-op, Testv as testv-op}
@@ -25,7 +25,7 @@ use Rattle.formula.specs.Read.{isList, operands, guardOf, again, operand
 use Rattle.base.proofs.Tests.{and-left, and-right, and-false}
 use Rattle.formula.proofs.Basics.{byte-case, list-back, list-number, list-named}
 use Rattle.formula.proofs.Order.{by-order, by-operands, by-gather}
-use Rattle.formula.proofs.Exprs.{LeavesExist, Finds, expr-found, expr-read, value-below}
+use Rattle.formula.proofs.Exprs.{Finds, expr-found, expr-read, value-below}
 
 -- a command is allowed behind what the summary tells, within the stated counts and depth, and gathers into no list a second time
 abbrev pub Fits : Summary → Command → Type 0
@@ -35,24 +35,13 @@ Fits s (STEP t) = (0 < s .states) × (s .closed ≡ false) × (s .steps < 8)
 Fits s (CLAUSE c) = (0 < s .steps) × (s .guarded ≡ false) × (s .clauses < 8) × Fresh (s .gathered) c
 Fits s (GUARD e) = (0 < s .steps) × (s .guarded ≡ false) × (size e ≤ 31) × (depth e ≤ 8)
 
--- its operands exist, states aside
-abbrev pub Operands : ℕ → Command → Type 0
-Operands fields (TIED v) = Variable v
-Operands fields (STATE k) = Unit {0}
-Operands fields (STEP t) = Unit {0}
-Operands fields (CLAUSE (TEST f o v)) = (f < fields) × Value v
-Operands fields (CLAUSE (TESTV f o v)) = (f < fields) × Variable v
-Operands fields (CLAUSE (BIND f v)) = (f < fields) × Variable v
-Operands fields (CLAUSE (GATHER f v)) = (f < fields) × ListVariable v
-Operands fields (GUARD e) = LeavesExist e
-
 -- the command's bytes stand in front, and it is right there
 pub record Taken (fields : ℕ) (s : Summary) (rest : List ℕ) (c : Command) (u : ℕ) : Type 0 where
   pub behind : List ℕ
   pub bytes : rest ≡ encodeCommand c ++ behind
   pub used : u ≡ length (encodeCommand c)
   pub fits : Fits s c
-  pub operands : Operands fields c
+  pub operands : Exists fields c
 
 -- END stands in front, behind at least one STATE
 pub record Ended (s : Summary) (rest : List ℕ) : Type 0 where
@@ -282,7 +271,7 @@ kind-below accept = refl
 kind-below reject = refl
 
 -- every encoding of a command that fits, with operands that exist, is taken as that command, whatever follows
-pub next-read : (fields : ℕ) (s : Summary) (at : ℕ) (c : Command) (rest : List ℕ) → Fits s c → Operands fields c
+pub next-read : (fields : ℕ) (s : Summary) (at : ℕ) (c : Command) (rest : List ℕ) → Fits s c → Exists fields c
     → next fields s at (encodeCommand c ++ rest) ≡ command c (length (encodeCommand c))
 unfolding next opcode encodeCommand encodeClause bytesOf
 next-read fields s at (TIED v) rest h o = rw (eq-eqb (s .states) 0 (h .0), lt-ltb (s .tied) 8 (h .1), le-ltb (length (v ∷ rest)) 1 (omega arith), lt-ltb v 8 o)

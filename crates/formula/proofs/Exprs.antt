@@ -15,22 +15,10 @@ use Rattle.base.proofs.Tests.{cond-holds}
 use Rattle.base.proofs.Values.{bytes-of-value, value-of-bytes, byte-below}
 use Rattle.formula.specs.Formula.{Leaf, CONST, VAR, COUNT, SUM, LENGTH, DIFFERENT, Expr, LEAF, ADD, SUB, LESS, ATMOST, EQUAL, NOT, AND, OR, IF}
 use Rattle.formula.specs.Encode.{listByte, encodeLeaf, encodeExpr}
-use Rattle.formula.specs.Correct.{size, depth, Leaves, Value, Variable, ListVariable}
+use Rattle.formula.specs.Correct.{size, depth, Leaves, Value, Variable, ListVariable, LeafExists}
 use Rattle.formula.specs.Read.{ExprNext, expression, failed, ExprOpcode, const-op, var-op, count-op, list-op, unary, binary, ternary, foreign-op}
 use Rattle.formula.specs.Read.{exprOpcode, isList, overOf, over, andThen, exprOf, exprWith, readExpr}
 use Rattle.formula.proofs.Basics.{byte-case, bytes-drop, behind, list-back, list-number, list-named}
-
--- what a leaf must be where it is read
-abbrev pub LeafReads : Leaf → Type 0
-LeafReads (CONST v) = Value v
-LeafReads (VAR v) = Variable v
-LeafReads (COUNT s) = Unit {0}
-LeafReads (SUM v) = ListVariable v
-LeafReads (LENGTH v) = ListVariable v
-LeafReads (DIFFERENT v) = ListVariable v
-
-abbrev pub LeavesExist : Expr → Type 0
-LeavesExist e = Leaves LeafReads e
 
 -- the expression's bytes stand in front, and it is within depth d and n commands
 pub record Found (d n : ℕ) (rest : List ℕ) (e : Expr) (u m : ℕ) : Type 0 where
@@ -39,7 +27,7 @@ pub record Found (d n : ℕ) (rest : List ℕ) (e : Expr) (u m : ℕ) : Type 0 w
   pub used : u ≡ length (encodeExpr e)
   pub left : n ≡ size e + m
   pub deep : depth e ≤ d
-  pub leaves : LeavesExist e
+  pub leaves : Leaves LeafExists e
 
 abbrev pub Finds : ℕ → ℕ → List ℕ → ExprNext → Type 0
 Finds d n rest (expression e u m) = Found d n rest e u m
@@ -48,25 +36,25 @@ Finds d n rest (failed r) = Unit {0}
 -- what the opcodes of lists, and those with operands, build
 record OfList (c : ℕ) (mk : ℕ → Leaf) : Type 0 where
   bytes : (v : ℕ) → encodeLeaf (mk v) ≡ c ∷ listByte v ∷ []
-  exists : (v : ℕ) → ListVariable v → LeafReads (mk v)
+  exists : (v : ℕ) → ListVariable v → LeafExists (mk v)
 
 record Unary (c : ℕ) (mk : Expr → Expr) : Type 0 where
   bytes : (a : Expr) → encodeExpr (mk a) ≡ c ∷ encodeExpr a
   size-is : (a : Expr) → size (mk a) ≡ suc (size a)
   depth-is : (a : Expr) → depth (mk a) ≡ suc (depth a)
-  leaves : (a : Expr) → LeavesExist a → LeavesExist (mk a)
+  leaves : (a : Expr) → Leaves LeafExists a → Leaves LeafExists (mk a)
 
 record Binary (c : ℕ) (mk : Expr → Expr → Expr) : Type 0 where
   bytes : (a b : Expr) → encodeExpr (mk a b) ≡ c ∷ (encodeExpr a ++ encodeExpr b)
   size-is : (a b : Expr) → size (mk a b) ≡ suc (size a + size b)
   depth-is : (a b : Expr) → depth (mk a b) ≡ suc (max (depth a) (depth b))
-  leaves : (a b : Expr) → LeavesExist a → LeavesExist b → LeavesExist (mk a b)
+  leaves : (a b : Expr) → Leaves LeafExists a → Leaves LeafExists b → Leaves LeafExists (mk a b)
 
 record Ternary (c : ℕ) (mk : Expr → Expr → Expr → Expr) : Type 0 where
   bytes : (a b e : Expr) → encodeExpr (mk a b e) ≡ c ∷ (encodeExpr a ++ (encodeExpr b ++ encodeExpr e))
   size-is : (a b e : Expr) → size (mk a b e) ≡ suc (size a + (size b + size e))
   depth-is : (a b e : Expr) → depth (mk a b e) ≡ suc (max (depth a) (max (depth b) (depth e)))
-  leaves : (a b e : Expr) → LeavesExist a → LeavesExist b → LeavesExist e → LeavesExist (mk a b e)
+  leaves : (a b e : Expr) → Leaves LeafExists a → Leaves LeafExists b → Leaves LeafExists e → Leaves LeafExists (mk a b e)
 
 abbrev Names : ℕ → ExprOpcode → Type 0
 Names c const-op = c ≡ 0x20
@@ -379,7 +367,7 @@ second : (a b d : ℕ) → suc (max a b) ≤ suc d → b ≤ d
 second a b d h = omega arith
 
 -- the encoding of an expression of depth at most d is read as that expression
-expr-reads : (d : ℕ) (e : Expr) → depth e ≤ d → LeavesExist e → Reads (readExpr d) (encodeExpr e) e (size e)
+expr-reads : (d : ℕ) (e : Expr) → depth e ≤ d → Leaves LeafExists e → Reads (readExpr d) (encodeExpr e) e (size e)
 unfolding readExpr encodeExpr size depth exprOpcode
 expr-reads zero e h l = absurd (not-suc-le-zero (native.Mathlib.Nat.le-trans (deep e) h))
 expr-reads (suc d) (LEAF (CONST v)) h l = const-reads (readExpr d) v l
@@ -415,7 +403,7 @@ expr-reads (suc d) (IF c a b) h l =
     (expr-reads d c (omega arith) (l .0)) (expr-reads d a (omega arith) (l .1)) (expr-reads d b (omega arith) (l .2))
 
 -- every encoding within depth d and n commands is read as its expression, whatever follows
-pub expr-read : (d n at : ℕ) (e : Expr) (rest : List ℕ) → depth e ≤ d → size e ≤ n → LeavesExist e
+pub expr-read : (d n at : ℕ) (e : Expr) (rest : List ℕ) → depth e ≤ d → size e ≤ n → Leaves LeafExists e
     → readExpr d n at (encodeExpr e ++ rest) ≡ expression e (length (encodeExpr e)) (n - size e)
 unfolding Reads
 expr-read d n at e rest h k l =

@@ -7,6 +7,7 @@ pub mod Assembling
 pub mod Closure
 pub mod Counts
 pub mod AfterEnd
+pub mod CommandRefusals
 pub mod Reading
 pub mod Fuel
 pub mod Places
@@ -14,4 +15,5 @@ pub mod Steps
 pub mod Table
 pub mod Ties
 pub mod Refusals
+pub mod Absent
 pub mod Examples

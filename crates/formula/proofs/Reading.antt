@@ -5,7 +5,7 @@ use mathlib.Core.Logic.{_↔_}
 use mathlib.Core.List.{List, [], _∷_, _++_, flatMap, append-assoc, append-nil}
 use mathlib.Core.Option.{Option, none, some}
 use native.Mathlib.Omega.{arith}
-use native.Mathlib.Nat.{not-suc-le-zero}
+use native.Mathlib.Nat.{not-suc-le-zero, le-refl}
 use lib.ListN.{length, drop, length-append}
 use lib.Seq.{drop-append-seam, append-snoc}
 use Rattle.base.proofs.Tests.{cond-holds}
@@ -15,16 +15,17 @@ use Rattle.refusal.specs.declared.Refusal.{Refusal}
 use Rattle.formula.specs.Formula.{TEST, TESTV, BIND, GATHER, Formula}
 use Rattle.formula.specs.Encode.{Command, TIED, STATE, STEP, CLAUSE, GUARD, commands, encodeClause, encodeCommand, encode}
 use Rattle.formula.specs.Unbound.{isUnbound}
-use Rattle.formula.specs.Correct.{Exists, deadStart, Correct}
+use Rattle.formula.specs.Correct.{Exists, deadStart, WellFormed, Correct}
 use Rattle.formula.specs.declared.Summary.{Summary}
 use Rattle.formula.specs.Read.{Reading, accepted, refused, start, advance, Next, command, end, bad, next, assembly, assemble, firstAbsent}
 use Rattle.formula.specs.Read.{firstUnbound, refusedAt, judge, afterEnd, follow, readFrom, readFormula}
-use Rattle.formula.proofs.Basics.{bytes-drop, behind, all-both}
-use Rattle.formula.proofs.Commands.{Fits, Operands, Taken, Ended, Takes, next-taken, next-read, next-end}
+use Rattle.formula.proofs.Basics.{bytes-drop, behind}
+use Rattle.formula.proofs.Commands.{Fits, Taken, Ended, Takes, next-taken, next-read, next-end}
 use Rattle.formula.proofs.Assembling.{Follows, assemble-commands, commands-assemble}
-use Rattle.formula.proofs.Counts.{Counts, counts-follow, follow-counts}
+use Rattle.formula.proofs.Counts.{counts-follow, follow-counts}
 use Rattle.formula.proofs.Order.{then-accepted}
-use Rattle.formula.proofs.AfterEnd.{Declared, exists-both, exists-operands, exists-declared, none-absent, declared-none, none-unbound, unbound-none}
+use Rattle.formula.proofs.AfterEnd.{none-absent, declared-none, none-unbound, unbound-none}
+use Rattle.formula.proofs.CommandRefusals.{CommandRefusal, cut-short, Tells, next-tells}
 
 -- the summary after several commands
 abbrev pub advances : Summary → List Command → Summary
@@ -64,7 +65,7 @@ encode-snoc cs c = flatMap-append encodeCommand cs (c ∷ []) ∙ ap (λ r. flat
 pub record Reached (fields : ℕ) (l : List ℕ) (s : Summary) (cs : List Command) (at : ℕ) (rest : List ℕ) : Type 0 where
   pub follows : Follows start cs
   pub summary : s ≡ advances start cs
-  pub operands : All (Operands fields) cs
+  pub operands : All (Exists fields) cs
   pub bytes : l ≡ flatMap encodeCommand cs ++ rest
   pub place : at ≡ length (flatMap encodeCommand cs)
 
@@ -84,16 +85,14 @@ reached-next fields l s cs at rest c u r t =
     record {
       follows = follows-snoc start cs c (r .follows) (subst (λ x. Fits x c) (r .summary) (t .fits));
       summary = ap (λ x. advance x c) (r .summary) ∙ sym (advances-snoc start cs c);
-      operands = All-append (Operands fields) cs (c ∷ []) (r .operands) (t .operands, tt);
+      operands = All-append (Exists fields) cs (c ∷ []) (r .operands) (t .operands, tt);
       bytes = rw (encode-snoc cs c, d, append-assoc (flatMap encodeCommand cs) (encodeCommand c) (t .behind)) e;
       place = rw (encode-snoc cs c) (omega arith);
     }
 
--- at END: the file up to there is the encoding of the commands' formula, which keeps the counts and has a state
+-- at END: the file up to there is the encoding of the commands' formula, which is well formed
 pub record Complete (fields : ℕ) (l : List ℕ) (f : Formula) (after : List ℕ) : Type 0 where
-  pub counts : Counts f
-  pub nonempty : 1 ≤ length (f .states)
-  pub operands : All (Operands fields) (commands f)
+  pub formed : WellFormed fields f
   pub bytes : l ≡ encode f ++ after
 
 pub reached-end : (fields : ℕ) (l : List ℕ) (s : Summary) (cs : List Command) (at : ℕ) (rest : List ℕ) → Reached fields l s cs at rest → Ended s rest
@@ -105,12 +104,39 @@ reached-end fields l s cs at rest r t =
     let n : s .states ≡ length (assembly cs .states) =
     ap (λ (x : Summary). x .states) (r .summary) ∙ (states-assembled start cs ∙ native.Mathlib.Nat.zero-add (length (assembly cs .states))) in
     let p = t .states in
+    let k = follow-counts (assemble cs) (subst (Follows start) (sym e) (r .follows)) in
     record {
-      counts = follow-counts (assemble cs) (subst (Follows start) (sym e) (r .follows));
-      nonempty = omega arith;
-      operands = subst (All (Operands fields)) (sym e) (r .operands);
+      formed = record {
+        tied = k .tied;
+        nonempty = omega arith;
+        states = k .states;
+        each = k .each;
+        values = subst (All (Exists fields)) (sym e) (r .operands);
+      };
       bytes = rw (e, d, append-snoc (flatMap encodeCommand cs) 0x00 (t .behind), ← t .bytes) (r .bytes);
     }
+
+-- What holds of every refusal of a command, and of every judgement behind END, holds of the answer.
+module _ (fields : ℕ) (l : List ℕ) (P : Reading → Type 0) (broken : (n : ℕ) (r : Refusal) → CommandRefusal n r → P (refused r))
+    (ended : (f : Formula) (at : ℕ) (after : List ℕ) → Complete fields l f after → P (afterEnd f at after)) where
+  follow-holds : (go-on : Summary → List Command → ℕ → List ℕ → Reading) (s : Summary) (cs : List Command) (at : ℕ) (rest : List ℕ)
+      → ((t : Summary) (ds : List Command) (k u : ℕ) → Reached fields l t ds k (drop u rest) → P (go-on t ds k (drop u rest)))
+      → Reached fields l s cs at rest → (x : Next) → Takes fields s rest x → Tells (at + length rest) rest x → P (follow go-on s cs at rest x)
+  follow-holds go-on s cs at rest h r (command c u) t k = h (advance s c) (cs ++ (c ∷ [])) (at + u) u (reached-next fields l s cs at rest c u r t)
+  follow-holds go-on s cs at rest h r end t k = ended (assemble cs) (at + 1) (drop 1 rest) (reached-end fields l s cs at rest r t)
+  follow-holds go-on s cs at rest h r (bad b) t k = broken (at + length rest) b k
+
+  from-holds : (n : ℕ) (s : Summary) (cs : List Command) (at : ℕ) (rest : List ℕ) → Bytes rest → Reached fields l s cs at rest
+      → P (readFrom n fields s cs at rest)
+  unfolding readFrom
+  from-holds zero s cs at rest b r = broken at _ (cut-short (le-refl at))
+  from-holds (suc n) s cs at rest b r =
+      follow-holds (readFrom n fields) s cs at rest (λ t ds k u q. from-holds n t ds k (drop u rest) (bytes-drop u rest b) q) r (next fields s at rest)
+      (next-taken fields s at rest b) (next-tells (at + length rest) fields s at rest refl)
+
+  pub reading-holds : Bytes l → P (readFormula fields l)
+  unfolding readFormula
+  reading-holds b = from-holds (suc (length l)) start [] 0 l b (reached-start fields l)
 
 -- what a reading of l with so many fields may answer
 abbrev Right : ℕ → List ℕ → Reading → Type 0
@@ -132,14 +158,10 @@ judge-right fields l f c =
     (λ b. (
       c .bytes ∙ append-nil (encode f),
       record {
-        tied = c .counts .tied;
-        nonempty = c .nonempty;
-        states = c .counts .states;
-        each = c .counts .each;
-        values = all-both (Operands fields) (Declared (length (f .states))) (Exists fields (length (f .states))) (exists-both fields (length (f .states)))
-            (commands f) (c .operands) (none-absent (length (f .states)) 0 (commands f) a);
+        formed = c .formed;
+        named = none-absent (length (f .states)) 0 (commands f) a;
         start = d;
-        bound = none-unbound f (c .counts .states) b;
+        bound = none-unbound f (c .formed .states) b;
       },
     ))))
 
@@ -148,25 +170,9 @@ unfolding afterEnd
 end-right fields l f at [] c = judge-right fields l f c
 end-right fields l f at (b ∷ bs) c = tt
 
-follow-right : (fields : ℕ) (l : List ℕ) (go-on : Summary → List Command → ℕ → List ℕ → Reading) (s : Summary) (cs : List Command) (at : ℕ) (rest : List ℕ)
-    → ((t : Summary) (ds : List Command) (k : ℕ) (u : ℕ) → Reached fields l t ds k (drop u rest) → Right fields l (go-on t ds k (drop u rest)))
-    → Reached fields l s cs at rest → (x : Next) → Takes fields s rest x → Right fields l (follow go-on s cs at rest x)
-follow-right fields l go-on s cs at rest h r (command c u) t = h (advance s c) (cs ++ (c ∷ [])) (at + u) u (reached-next fields l s cs at rest c u r t)
-follow-right fields l go-on s cs at rest h r end t = end-right fields l (assemble cs) (at + 1) (drop 1 rest) (reached-end fields l s cs at rest r t)
-follow-right fields l go-on s cs at rest h r (bad b) t = tt
-
-from-right : (n : ℕ) (fields : ℕ) (l : List ℕ) (s : Summary) (cs : List Command) (at : ℕ) (rest : List ℕ) → Bytes rest → Reached fields l s cs at rest
-    → Right fields l (readFrom n fields s cs at rest)
-unfolding readFrom
-from-right zero fields l s cs at rest b r = tt
-from-right (suc n) fields l s cs at rest b r =
-    follow-right fields l (readFrom n fields) s cs at rest (λ t ds k u q. from-right n fields l t ds k (drop u rest) (bytes-drop u rest b) q) r
-    (next fields s at rest) (next-taken fields s at rest b)
-
 -- an accepted file is the encoding of the formula it is read as, which is correct
 pub accepted-correct : (fields : ℕ) (l : List ℕ) (f : Formula) → Bytes l → readFormula fields l ≡ accepted f → (l ≡ encode f) × Correct fields f
-unfolding readFormula
-accepted-correct fields l f b e = subst (Right fields l) e (from-right (suc (length l)) fields l start [] 0 l b (reached-start fields l))
+accepted-correct fields l f b e = subst (Right fields l) e (reading-holds fields l (Right fields l) (λ n r k. tt) (end-right fields l) b)
 
 -- every command has a byte
 pub encode-long : (c : Command) → 1 ≤ length (encodeCommand c)
@@ -190,7 +196,7 @@ commands-short (c ∷ cs) =
     omega arith
 
 -- right commands are read to END, and then judged
-read-commands : (n fields : ℕ) (cs : List Command) (s : Summary) (done : List Command) (at : ℕ) → Follows s cs → All (Operands fields) cs
+read-commands : (n fields : ℕ) (cs : List Command) (s : Summary) (done : List Command) (at : ℕ) → Follows s cs → All (Exists fields) cs
     → 0 < advances s cs .states → length cs < n
     → readFrom n fields s done at (flatMap encodeCommand cs ++ (0x00 ∷ [])) ≡ judge (assemble (done ++ cs))
 unfolding readFrom flatMap afterEnd
@@ -206,28 +212,23 @@ read-commands (suc n) fields (c ∷ cs) s done at h o p k =
     )
     (i ∙ ap (λ x. judge (assemble x)) (append-snoc done c cs))
 
-judge-accepts : (fields : ℕ) (f : Formula) → Correct fields f → judge f ≡ accepted f
-unfolding afterEnd
-judge-accepts fields f c =
-    let P = Exists fields (length (f .states)) in
-    let declared =
-    all-both P P (Declared (length (f .states))) (λ x y z. exists-declared fields (length (f .states)) x y) (commands f) (c .values) (c .values) in
-    then-accepted f 0 (declared-none (length (f .states)) 0 (commands f) declared) (c .start) (unbound-none f (c .bound))
-
--- the encoding of a correct formula is accepted and read as that formula
-pub correct-accepted : (fields : ℕ) (f : Formula) → Correct fields f → readFormula fields (encode f) ≡ accepted f
+-- the encoding of a well-formed formula is read to END, and the formula is judged
+pub formed-judged : (fields : ℕ) (f : Formula) → WellFormed fields f → readFormula fields (encode f) ≡ judge f
 unfolding readFormula encode
-correct-accepted fields f c =
+formed-judged fields f c =
     let h : Follows start (commands f) = counts-follow f (record { tied = c .tied; states = c .states; each = c .each }) in
-    let o : All (Operands fields) (commands f) =
-    all-both (Exists fields (length (f .states))) (Exists fields (length (f .states))) (Operands fields)
-    (λ x y z. exists-operands fields (length (f .states)) x y) (commands f) (c .values) (c .values) in
     let n = states-passed f in
     let p = c .nonempty in
     let k = commands-short (commands f) in
     let l = length-append (flatMap encodeCommand (commands f)) (0x00 ∷ []) in
-    read-commands (suc (length (encode f))) fields (commands f) start [] 0 h o (omega arith) (omega arith)
-    ∙ (ap judge (assemble-commands f) ∙ judge-accepts fields f c)
+    read-commands (suc (length (encode f))) fields (commands f) start [] 0 h (c .values) (omega arith) (omega arith) ∙ ap judge (assemble-commands f)
+
+-- the encoding of a correct formula is accepted and read as that formula
+pub correct-accepted : (fields : ℕ) (f : Formula) → Correct fields f → readFormula fields (encode f) ≡ accepted f
+unfolding afterEnd
+correct-accepted fields f c =
+    formed-judged fields f (c .formed)
+    ∙ then-accepted f 0 (declared-none (length (f .states)) 0 (commands f) (c .named)) (c .start) (unbound-none f (c .bound))
 
 -- the encoding loses nothing
 pub encode-injective : (fields : ℕ) (f g : Formula) → Correct fields f → Correct fields g → encode f ≡ encode g → f ≡ g

@@ -1,211 +1,39 @@
--- What a formula is refused with: one of the refusals 1 to 5, 7, 8, 12 and 13, of the formula, at a place in the file or at its end.
+-- What a formula is refused with: a command's refusal, or one of 5, 13, 7 and 8 behind END, of the formula, at a place in the file or at its end.
 use Prim.Native.Nat.{ℕ, zero, suc, _+_, _-_, _≤_}
 use mathlib.Core.Path.{_≡_, refl, ap, subst, _∙_}
-use mathlib.Core.Bool.{Bool, true, false, cond, not, _&&_}
+use mathlib.Core.Bool.{Bool, true, false, not}
 use mathlib.Core.List.{List, [], _∷_, _++_, map, flatMap}
 use mathlib.Core.Option.{Option, none, some}
 use native.Mathlib.Omega.{arith}
-use borrow.Author.Tests.{ltb-false}
-use lib.Dec.{ltb, eqb}
-use lib.ListN.{length, getD, drop, length-append, length-drop}
+use lib.Dec.{ltb}
+use lib.ListN.{length, drop, length-append, length-drop}
 use Rattle.base.proofs.Tests.{cond-holds}
 use Rattle.base.proofs.Lists.{flatMap-append}
-use Rattle.base.specs.Value.{bytesOf, valueAt}
 use Rattle.refusal.specs.declared.File.the-variants.{Formula as InFormula}
 use Rattle.refusal.specs.declared.Refusal.{Refusal}
-use Rattle.refusal.specs.declared.Refusal.the-variants.{CutShort, Foreign, Value, Surplus, Leftover, DeadStart, Unbound as UnboundAt, Twice, AbsentState}
+use Rattle.refusal.specs.declared.Refusal.the-variants.{Leftover, DeadStart, Unbound as UnboundAt, AbsentState}
 use Rattle.formula.specs.Formula.{Leaf, Expr, LEAF, ADD, SUB, LESS, ATMOST, EQUAL, NOT, AND, OR, IF, Clause, TEST, TESTV, BIND, GATHER, Formula}
 use Rattle.formula.specs.Encode.{Command, TIED, STATE, STEP, CLAUSE, GUARD, guardCommands, stepCommands, stateCommands, commands, encodeExpr}
-use Rattle.formula.specs.Encode.{encodeClause, encodeCommand}
+use Rattle.formula.specs.Encode.{encodeCommand}
 use Rattle.formula.specs.Unbound.{isUnbound}
 use Rattle.formula.specs.Correct.{deadStart}
 use Rattle.formula.specs.declared.Summary.{Summary}
-use Rattle.formula.specs.declared.Opcode.{Opcode}
-use Rattle.formula.specs.declared.Opcode.the-variants.{End as end-op, State as state-op, Step as step-op, Test as test-op, Testv as testv-op}
-use Rattle.formula.specs.declared.Opcode.the-variants.{Bind as bind-op, Guard as guard-op, Tied as tied-op, Gather as gather-op, Other as other-op}
-use Rattle.formula.specs.Read.{Reading, accepted, refused, start, advance, opcode, allowed, room, operatorOf, kindOf, ExprNext, expression}
-use Rattle.formula.specs.Read.{failed, ExprOpcode, const-op, var-op, count-op, list-op, unary, binary, ternary, foreign-op, exprOpcode, overOf, over}
-use Rattle.formula.specs.Read.{isList, andThen, exprOf, exprWith, readExpr, Next, command, end, bad, operands, guardOf, operandsOf, next, Assembly}
+use Rattle.formula.specs.Read.{Reading, accepted, refused, start, advance}
+use Rattle.formula.specs.Read.{Next, command, end, bad, next, Assembly}
 use Rattle.formula.specs.Read.{inFront, assembly, assemble, orElse, when, firstLeaf, absentLeaf, absentIn, firstAbsent, seenAfter, ownAfter}
 use Rattle.formula.specs.Read.{unboundLeaf, unboundIn, firstUnbound, refusedAt, judge, afterEnd, follow, readFrom, readFormula}
-use Rattle.formula.proofs.Order.{by-gather}
+use Rattle.formula.proofs.CommandRefusals.{CommandRefusal, cut-short, three, Tells, next-tells}
 use Rattle.formula.proofs.Reading.{encode-snoc}
 
--- a refusal of a formula with n bytes
+-- a refusal of a formula with n bytes: of one of its commands, or behind END
 pub data FormulaRefusal (n : ℕ) : Refusal → Type 0 where
-  cut-short : {p : ℕ} → p ≤ n → FormulaRefusal n (CutShort InFormula p)
-  foreign : {p : ℕ} → p ≤ n → FormulaRefusal n (Foreign InFormula p)
-  value : {p : ℕ} → p ≤ n → FormulaRefusal n (Value InFormula p)
-  surplus : {p : ℕ} → p ≤ n → FormulaRefusal n (Surplus InFormula p)
+  of-command : {r : Refusal} → CommandRefusal n r → FormulaRefusal n r
   leftover : {p : ℕ} → p ≤ n → FormulaRefusal n (Leftover InFormula p)
+  absent-state : {p : ℕ} → p ≤ n → FormulaRefusal n (AbsentState p)
   dead-start : FormulaRefusal n DeadStart
   unbound : {p : ℕ} → p ≤ n → FormulaRefusal n (UnboundAt p)
-  twice : {p : ℕ} → p ≤ n → FormulaRefusal n (Twice p)
-  absent-state : {p : ℕ} → p ≤ n → FormulaRefusal n (AbsentState p)
 
--- an expression of a list has two bytes, one with operands one byte more than they have
-abbrev OneMore : ExprOpcode → Type 0
-OneMore const-op = Unit {0}
-OneMore var-op = Unit {0}
-OneMore count-op = Unit {0}
-OneMore (list-op mk) = (v : ℕ) → length (encodeExpr (LEAF (mk v))) ≡ 2
-OneMore (unary mk) = (a : Expr) → length (encodeExpr (mk a)) ≡ suc (length (encodeExpr a))
-OneMore (binary mk) = (a b : Expr) → length (encodeExpr (mk a b)) ≡ suc (length (encodeExpr a) + length (encodeExpr b))
-OneMore (ternary mk) = (a b c : Expr) → length (encodeExpr (mk a b c)) ≡ suc (length (encodeExpr a) + (length (encodeExpr b) + length (encodeExpr c)))
-OneMore foreign-op = Unit {0}
-
-two : (a b : Expr) → suc (length (encodeExpr a ++ encodeExpr b)) ≡ suc (length (encodeExpr a) + length (encodeExpr b))
-two a b = ap suc (length-append (encodeExpr a) (encodeExpr b))
-
-three : (a b c : Expr)
-    → suc (length (encodeExpr a ++ (encodeExpr b ++ encodeExpr c))) ≡ suc (length (encodeExpr a) + (length (encodeExpr b) + length (encodeExpr c)))
-three a b c =
-    ap suc
-    (length-append (encodeExpr a) (encodeExpr b ++ encodeExpr c) ∙ ap (λ k. length (encodeExpr a) + k) (length-append (encodeExpr b) (encodeExpr c)))
-
-one-of : (t : Bool) (x y : ExprOpcode) → OneMore x → OneMore y → OneMore (cond t x y)
-one-of t x y h k = cond-holds OneMore t x y (λ e. h) (λ e. k)
-
-one-more : (b : ℕ) → OneMore (exprOpcode b)
-unfolding exprOpcode encodeExpr
-one-more b =
-    one-of (eqb b 0x20) _ _ tt
-    (one-of (eqb b 0x21) _ _ tt
-    (one-of (eqb b 0x22) _ _ tt
-    (one-of (eqb b 0x23) _ _ two
-    (one-of (eqb b 0x24) _ _ two
-    (one-of (eqb b 0x25) _ _ two
-    (one-of (eqb b 0x26) _ _ two
-    (one-of (eqb b 0x27) _ _ two
-    (one-of (eqb b 0x28) _ _ (λ a. refl)
-    (one-of (eqb b 0x29) _ _ two
-    (one-of (eqb b 0x2A) _ _ two
-    (one-of (eqb b 0x2B) _ _ three
-    (one-of (eqb b 0x2C) _ _ (λ v. refl) (one-of (eqb b 0x2D) _ _ (λ v. refl) (one-of (eqb b 0x2E) _ _ (λ v. refl) tt))))))))))))))
-
--- COMMANDS, in a file of n bytes, where the bytes bs stand from offset `at` on
-module _ (n : ℕ) where
-  -- an expression that was read used its own bytes, which stand there; a refusal is one of the file
-  abbrev ExprTells : List ℕ → ExprNext → Type 0
-  ExprTells bs (expression e u m) = (u ≡ length (encodeExpr e)) × (u ≤ length bs)
-  ExprTells bs (failed r) = FormulaRefusal n r
-
-  abbrev Telling : (ℕ → ℕ → List ℕ → ExprNext) → Type 0
-  Telling op = (left at : ℕ) (bs : List ℕ) → at + length bs ≡ n → ExprTells bs (op left at bs)
-
-  then-tells : (bs cs : List ℕ) (x : ExprNext) (k : Expr → ℕ → ℕ → ExprNext) → ExprTells bs x
-      → ((e : Expr) (u m : ℕ) → u ≡ length (encodeExpr e) → u ≤ length bs → ExprTells cs (k e u m)) → ExprTells cs (andThen x k)
-  then-tells bs cs (expression e u m) k h f = f e u m (h .0) (h .1)
-  then-tells bs cs (failed r) k h f = h
-
-  over-tells : (at : ℕ) (bs : List ℕ) → at ≤ n → ExprTells bs (over at bs)
-  unfolding over
-  over-tells at [] h = cut-short h
-  over-tells at (b ∷ ops) h = go (exprOpcode b)
-    where
-      go : (w : ExprOpcode) → ExprTells (b ∷ ops) (overOf at w)
-      go const-op = surplus h
-      go var-op = surplus h
-      go count-op = surplus h
-      go (list-op mk) = surplus h
-      go (unary mk) = surplus h
-      go (binary mk) = surplus h
-      go (ternary mk) = surplus h
-      go foreign-op = foreign h
-
-  module _ (op : ℕ → ℕ → List ℕ → ExprNext) (tells : Telling op) (left at b : ℕ) (ops : List ℕ) (here : at + suc (length ops) ≡ n) where
-    -- a command without operands that are expressions, of `width` bytes behind its own
-    leaf-tells : (width : ℕ) (x : ExprNext) → (width ≤ length ops → ExprTells (b ∷ ops) x)
-        → ExprTells (b ∷ ops) (cond (ltb (length ops) width) (failed (CutShort InFormula at)) x)
-    leaf-tells width x f =
-        cond-holds (ExprTells (b ∷ ops)) (ltb (length ops) width) _ _ (λ t. cut-short {p = at} (omega arith))
-        (λ t. f (ltb-false (length ops) width t))
-
-    of-tells : (w : ExprOpcode) → OneMore w → ExprTells (b ∷ ops) (exprOf op left at ops w)
-    unfolding encodeExpr bytesOf
-    of-tells const-op g = leaf-tells 4 _ (λ k. (refl, omega arith))
-    of-tells var-op g =
-        leaf-tells 1 _
-        (λ k. cond-holds (ExprTells (b ∷ ops)) (ltb (getD ops 0 0) 8) _ _ (λ t. (refl, omega arith)) (λ t. value {p = at} (omega arith)))
-    of-tells count-op g = leaf-tells 1 _ (λ k. (refl, omega arith))
-    of-tells (list-op mk) g =
-        leaf-tells 1 _
-        (λ k.
-        cond-holds (ExprTells (b ∷ ops)) (isList (getD ops 0 0)) _ _ (λ t. (omega (arith, g (getD ops 0 0 - 8)), omega arith))
-        (λ t. value {p = at} (omega arith)))
-    of-tells (unary mk) g =
-        then-tells ops (b ∷ ops) (op left (at + 1) ops) _ (tells left (at + 1) ops (omega arith)) (λ a u m e i. (omega (arith, g a), omega arith))
-    of-tells (binary mk) g =
-        then-tells ops (b ∷ ops) (op left (at + 1) ops) _ (tells left (at + 1) ops (omega arith))
-        (λ a u m e i.
-        let s = drop u ops in
-        let k = length-drop u ops in
-        then-tells s (b ∷ ops) (op m (at + 1 + u) s) _ (tells m (at + 1 + u) s (omega arith)) (λ c w j e′ i′. (omega (arith, g a c), omega arith)))
-    of-tells (ternary mk) g =
-        then-tells ops (b ∷ ops) (op left (at + 1) ops) _ (tells left (at + 1) ops (omega arith))
-        (λ a u m e i.
-        let s = drop u ops in
-        let k = length-drop u ops in
-        then-tells s (b ∷ ops) (op m (at + 1 + u) s) _ (tells m (at + 1 + u) s (omega arith))
-        (λ c w j e′ i′.
-        let t = drop (u + w) ops in
-        let k′ = length-drop (u + w) ops in
-        then-tells t (b ∷ ops) (op j (at + 1 + u + w) t) _ (tells j (at + 1 + u + w) t (omega arith)) (λ d x y e″ i″. (omega (arith, g a c d), omega arith))))
-    of-tells foreign-op g = foreign {p = at} (omega arith)
-
-  expr-tells : (d : ℕ) → Telling (readExpr d)
-  unfolding readExpr exprWith
-  expr-tells zero left at bs h = over-tells at bs (omega arith)
-  expr-tells (suc d) left at [] h = cut-short {p = at} (omega arith)
-  expr-tells (suc d) zero at (b ∷ ops) h = over-tells at (b ∷ ops) (omega arith)
-  expr-tells (suc d) (suc left) at (b ∷ ops) h = of-tells (readExpr d) (expr-tells d) left at b ops h (exprOpcode b) (one-more b)
-
-  -- a command that was taken used its own bytes, which stand there, and END its one; a refusal is one of the file
-  abbrev Tells : List ℕ → Next → Type 0
-  Tells bs (command c u) = (u ≡ length (encodeCommand c)) × (u ≤ length bs)
-  Tells bs end = 1 ≤ length bs
-  Tells bs (bad r) = FormulaRefusal n r
-
-  guard-tells : (b : ℕ) (ops : List ℕ) (x : ExprNext) → ExprTells ops x → Tells (b ∷ ops) (guardOf x)
-  unfolding encodeCommand
-  guard-tells b ops (expression e u m) h = (omega (arith, h .0), omega (arith, h .1))
-  guard-tells b ops (failed r) h = h
-
-  module _ (fields : ℕ) (seen : List Bool) (at b : ℕ) (ops : List ℕ) (here : at + suc (length ops) ≡ n) where
-    operands-tell : (width : ℕ) (exist : Bool) (c : Command) → 1 + width ≡ length (encodeCommand c) → Tells (b ∷ ops) (operands at ops width exist c)
-    operands-tell width exist c e =
-        cond-holds (Tells (b ∷ ops)) (ltb (length ops) width) _ _ (λ t. cut-short {p = at} (omega arith))
-        (λ t. cond-holds (Tells (b ∷ ops)) exist _ _ (λ s. (e, omega (arith, ltb-false (length ops) width t))) (λ s. value {p = at} (omega arith)))
-
-    opcode-tells : (w : Opcode) → Tells (b ∷ ops) (operandsOf fields seen at ops w)
-    unfolding encodeCommand encodeClause bytesOf
-    opcode-tells end-op = omega arith
-    opcode-tells state-op = operands-tell 1 (ltb (getD ops 0 0) 4) (STATE (kindOf (getD ops 0 0))) refl
-    opcode-tells step-op = operands-tell 1 true (STEP (getD ops 0 0)) refl
-    opcode-tells test-op =
-        operands-tell 6 (ltb (getD ops 0 0) fields && ltb (getD ops 1 0) 6) (CLAUSE (TEST (getD ops 0 0) (operatorOf (getD ops 1 0)) (valueAt ops 2)))
-        refl
-    opcode-tells testv-op =
-        operands-tell 3 (ltb (getD ops 0 0) fields && ltb (getD ops 1 0) 6 && ltb (getD ops 2 0) 8)
-        (CLAUSE (TESTV (getD ops 0 0) (operatorOf (getD ops 1 0)) (getD ops 2 0))) refl
-    opcode-tells bind-op = operands-tell 2 (ltb (getD ops 0 0) fields && ltb (getD ops 1 0) 8) (CLAUSE (BIND (getD ops 0 0) (getD ops 1 0))) refl
-    opcode-tells guard-op = guard-tells b ops (readExpr 8 31 (at + 1) ops) (expr-tells 8 31 (at + 1) ops (omega arith))
-    opcode-tells tied-op = operands-tell 1 (ltb (getD ops 0 0) 8) (TIED (getD ops 0 0)) refl
-    opcode-tells gather-op =
-        by-gather fields seen at ops (Tells (b ∷ ops)) (cut-short {p = at} (omega arith)) (twice {p = at} (omega arith))
-        (λ k. operands-tell 2 (ltb (getD ops 0 0) fields && isList (getD ops 1 0)) (CLAUSE (GATHER (getD ops 0 0) (getD ops 1 0 - 8))) refl)
-    opcode-tells other-op = foreign {p = at} (omega arith)
-
-  next-tells : (fields : ℕ) (s : Summary) (at : ℕ) (bs : List ℕ) → at + length bs ≡ n → Tells bs (next fields s at bs)
-  unfolding next
-  next-tells fields s at [] h = cut-short {p = at} (omega arith)
-  next-tells fields s at (b ∷ ops) h =
-      cond-holds (Tells (b ∷ ops)) (allowed s (opcode b)) _ _
-      (λ a. cond-holds (Tells (b ∷ ops)) (room s (opcode b)) _ _ (λ r. opcode-tells fields (s .gathered) at b ops h (opcode b))
-      (λ r. surplus {p = at} (omega arith)))
-      (λ a. foreign {p = at} (omega arith))
-
--- AFTER END: the place that is found, if there is one, is at most n
+-- behind END, the place that is found, if there is one, is at most n
 data Within (n : ℕ) : Option ℕ → Type 0 where
   nowhere : Within n none
   place : {p : ℕ} → p ≤ n → Within n (some p)
@@ -358,12 +186,12 @@ module _ (n : ℕ) where
       f (advance s c) (cs ++ (c ∷ [])) (at + u) (drop u bs) (omega (arith, bytes-snoc cs c, t .0)) (omega (arith, length-drop u bs, t .1))
   follow-answers go-on f s cs at bs h k end t =
       end-answers (assemble cs) (at + 1) (drop 1 bs) (omega (arith, assembled-short cs)) (omega (arith, length-drop 1 bs))
-  follow-answers go-on f s cs at bs h k (bad r) t = t
+  follow-answers go-on f s cs at bs h k (bad r) t = of-command t
 
   from-answers : (fuel fields : ℕ) (s : Summary) (cs : List Command) (at : ℕ) (bs : List ℕ) → bytesIn cs ≡ at → at + length bs ≡ n
       → Answers (readFrom fuel fields s cs at bs)
   unfolding readFrom
-  from-answers zero fields s cs at bs h k = cut-short {p = at} (omega arith)
+  from-answers zero fields s cs at bs h k = of-command (cut-short {p = at} (omega arith))
   from-answers (suc fuel) fields s cs at bs h k =
       follow-answers (readFrom fuel fields) (from-answers fuel fields) s cs at bs h k (next fields s at bs) (next-tells n fields s at bs k)
 

@@ -2,14 +2,14 @@
 use Prim.Native.Nat.{ℕ, zero, suc, _<_}
 use mathlib.Core.Path.{_≡_, refl, subst}
 use mathlib.Core.Bool.{Bool, true, false}
-use mathlib.Core.List.{List, [], _∷_, _++_, map}
+use mathlib.Core.List.{List, [], _∷_, _++_}
 use mathlib.Core.Option.{some, Option·none-ne-some, Option·some-injective}
 use native.Mathlib.Omega.{arith}
 use lib.ListN.{length, getD, getElem?}
 use Rattle.base.proofs.Lists.{All-at}
 use Rattle.base.specs.Lists.{All}
-use Rattle.formula.specs.Formula.{Clause, Step, State, Formula}
-use Rattle.formula.specs.Encode.{CLAUSE, guardCommands, stepCommands}
+use Rattle.formula.specs.Formula.{Step, State, Formula}
+use Rattle.formula.specs.Encode.{stepCommands}
 use Rattle.formula.specs.Unbound.{stepsOf}
 use Rattle.formula.specs.Correct.{isFinal, Exists, StepFits, StateFits, Correct}
 use Rattle.formula.specs.Lookup.{stepAt, kindAt, commandsBefore}
@@ -23,9 +23,7 @@ pub record RightStep (fields : ℕ) (f : Formula) (s k : ℕ) (t : Step) : Type 
   pub number : k < 8
   pub kind : isFinal (kindAt f s) ≡ false
   pub fits : StepFits t
-  pub target : t .target < length (f .states)
-  pub clauses : All (λ (c : Clause). Exists fields (length (f .states)) (CLAUSE c)) (t .clauses)
-  pub guard : All (Exists fields (length (f .states))) (guardCommands (t .guard))
+  pub exist : All (Exists fields) (stepCommands t)
 
 -- an element that a list has keeps what all its elements have
 pub all-some : {A : Type 0} (P : A → Type 0) (xs : List A) (k : ℕ) (x : A) → getElem? xs k ≡ some x → All P xs → P x × (k < length xs)
@@ -35,10 +33,6 @@ all-some P (y ∷ ys) (suc k) x e a =
     let i = all-some P ys k x e (a .1) in
     let j = i .1 in
     (i .0, omega arith)
-
-all-map {ℓ} : {A : Type 0} {B : Type ℓ} (P : B → Type 0) (g : A → B) (xs : List A) → All P (map g xs) → All (λ x. P (g x)) xs
-all-map P g [] a = tt
-all-map P g (x ∷ xs) a = (a .0, all-map P g xs (a .1))
 
 -- a state with a step neither accepts nor rejects
 has-step : (x : State) (k : ℕ) (t : Step) → StateFits x → getElem? (x .steps) k ≡ some t → (b : Bool) → isFinal (x .kind) ≡ b → b ≡ false
@@ -52,21 +46,18 @@ right-step fields f s k t c e =
     let n = length (f .states) in
     let i : s < n = state-there f s k t e in
     let x = getD (f .states) s noState in
-    let h : StateFits x = All-at StateFits (f .states) s noState (c .each) i in
+    let h : StateFits x = All-at StateFits (f .states) s noState (c .formed .each) i in
     let p = all-some StepFits (x .steps) k t e (h .each) in
     let q = p .1 in
     let m = h .steps in
-    let a : All (Exists fields n) (commandsBefore f s k ++ (stepCommands t ++ commandsBehind f s k)) =
-    subst (All (Exists fields n)) (commands-split f s k t e) (c .values) in
-    let b =
-    all-left (Exists fields n) (stepCommands t) (commandsBehind f s k)
-    (all-right (Exists fields n) (commandsBefore f s k) (stepCommands t ++ commandsBehind f s k) a) in
+    let a : All (Exists fields) (commandsBefore f s k ++ (stepCommands t ++ commandsBehind f s k)) =
+    subst (All (Exists fields)) (commands-split f s k t e) (c .formed .values) in
     record {
       state = i;
       number = omega arith;
       kind = has-step x k t h e (isFinal (x .kind)) refl;
       fits = p .0;
-      target = b .0;
-      clauses = all-map (Exists fields n) CLAUSE (t .clauses) (all-left (Exists fields n) (map CLAUSE (t .clauses)) (guardCommands (t .guard)) (b .1));
-      guard = all-right (Exists fields n) (map CLAUSE (t .clauses)) (guardCommands (t .guard)) (b .1);
+      exist =
+          all-left (Exists fields) (stepCommands t) (commandsBehind f s k)
+          (all-right (Exists fields) (commandsBefore f s k) (stepCommands t ++ commandsBehind f s k) a);
     }

@@ -12,12 +12,12 @@ use Rattle.base.specs.Lists.{All}
 use Rattle.formula.specs.Formula.{Expr, Clause, Step, State, Formula}
 use Rattle.formula.specs.Encode.{Command, TIED, STATE, STEP, CLAUSE, GUARD, guardCommands, stepCommands, stateCommands, commands, encodeCommand}
 use Rattle.formula.specs.Unbound.{stepsOf}
-use Rattle.formula.specs.Correct.{StateFits}
+use Rattle.formula.specs.Correct.{StateFits, WellFormed}
 use Rattle.formula.specs.Lookup.{stepAt, kindAt, commandsBefore, stepPlace, placeIf, stepTable}
 use Rattle.formula.specs.declared.Summary.{Summary}
 use Rattle.formula.specs.Read.{start, advance}
 use Rattle.formula.proofs.Closure.{noState, no-steps}
-use Rattle.formula.proofs.Counts.{Counts, Same}
+use Rattle.formula.proofs.Counts.{Same}
 use Rattle.formula.proofs.Reading.{advances}
 use Rattle.formula.proofs.Places.{table-entry, table-length}
 
@@ -295,9 +295,9 @@ fill-tied f (v ∷ vs) m at tab cs r c =
     (λ n e. subst (λ j. fill n j tab cs ≡ r) (sum at (encodeCommand (TIED v)) (flatMap encodeCommand (map TIED vs))) (c n e))
 
 -- filled with all commands of a formula, the empty table is the formula's
-pub fill-table : (f : Formula) → Counts f → fill start 0 (replicate 128 0) (commands f) ≡ stepTable f
+pub fill-table : (fields : ℕ) (f : Formula) → WellFormed fields f → fill start 0 (replicate 128 0) (commands f) ≡ stepTable f
 unfolding commands start statePlace flatMap
-fill-table f h =
+fill-table fields f h =
     fill-tied f (f .tied) start 0 (replicate 128 0) (flatMap stateCommands (f .states)) (stepTable f)
     (λ n e.
     fill-states f (f .states) 0 n (0 + length (flatMap encodeCommand (map TIED (f .tied)))) (replicate 128 0) refl e

@@ -1,4 +1,4 @@
--- Correct formulas, in the paper's words: its counts and depths, what exists, no dead start, nothing unbound.
+-- Correct formulas, in the paper's words: its counts and depths, what exists, no absent state, no dead start, nothing unbound.
 use Prim.Native.Nat.{ℕ, suc, _+_, _<_, _≤_, max}
 use mathlib.Core.Path.{_≡_}
 use mathlib.Core.Bool.{Bool, true, false}
@@ -69,25 +69,41 @@ ListVariable v = v < 4
 abbrev pub Value : ℕ → Type 0
 Value v = v < 4294967296
 
--- the leaf's value, variable, state or list exists, given the number of states
-abbrev pub LeafExists : ℕ → Leaf → Type 0
-LeafExists states (CONST v) = Value v
-LeafExists states (VAR v) = Variable v
-LeafExists states (COUNT s) = s < states
-LeafExists states (SUM v) = ListVariable v
-LeafExists states (LENGTH v) = ListVariable v
-LeafExists states (DIFFERENT v) = ListVariable v
+-- the leaf's value, variable or list exists
+abbrev pub LeafExists : Leaf → Type 0
+LeafExists (CONST v) = Value v
+LeafExists (VAR v) = Variable v
+LeafExists (COUNT s) = Unit {0}
+LeafExists (SUM v) = ListVariable v
+LeafExists (LENGTH v) = ListVariable v
+LeafExists (DIFFERENT v) = ListVariable v
 
--- the command's field, variable, value and states exist, given the number of fields and states
-abbrev pub Exists : ℕ → ℕ → Command → Type 0
-Exists fields states (TIED v) = Variable v
-Exists fields states (STATE k) = Unit {0}
-Exists fields states (STEP t) = t < states
-Exists fields states (CLAUSE (TEST f o v)) = (f < fields) × Value v
-Exists fields states (CLAUSE (TESTV f o v)) = (f < fields) × Variable v
-Exists fields states (CLAUSE (BIND f v)) = (f < fields) × Variable v
-Exists fields states (CLAUSE (GATHER f v)) = (f < fields) × ListVariable v
-Exists fields states (GUARD e) = Leaves (LeafExists states) e
+-- 3 "is left for all other operands": the command's field, variable, value and list exist, given the number of fields, whatever state it names
+abbrev pub Exists : ℕ → Command → Type 0
+Exists fields (TIED v) = Variable v
+Exists fields (STATE k) = Unit {0}
+Exists fields (STEP t) = Unit {0}
+Exists fields (CLAUSE (TEST f o v)) = (f < fields) × Value v
+Exists fields (CLAUSE (TESTV f o v)) = (f < fields) × Variable v
+Exists fields (CLAUSE (BIND f v)) = (f < fields) × Variable v
+Exists fields (CLAUSE (GATHER f v)) = (f < fields) × ListVariable v
+Exists fields (GUARD e) = Leaves LeafExists e
+
+-- the state that a leaf, or a command, names is one of so many declared
+abbrev pub LeafDeclared : ℕ → Leaf → Type 0
+LeafDeclared states (CONST x) = Unit {0}
+LeafDeclared states (VAR v) = Unit {0}
+LeafDeclared states (COUNT s) = s < states
+LeafDeclared states (SUM v) = Unit {0}
+LeafDeclared states (LENGTH v) = Unit {0}
+LeafDeclared states (DIFFERENT v) = Unit {0}
+
+abbrev pub Declared : ℕ → Command → Type 0
+Declared states (TIED v) = Unit {0}
+Declared states (STATE k) = Unit {0}
+Declared states (STEP t) = t < states
+Declared states (CLAUSE c) = Unit {0}
+Declared states (GUARD e) = Leaves (LeafDeclared states) e
 
 -- "At most 31 commands, nested at most 8 deep"
 abbrev pub GuardFits : Option Expr → Type 0
@@ -160,16 +176,22 @@ abbrev pub deadStart : List State → Bool
 deadStart [] = false
 deadStart (x ∷ xs) = isFinal (x .kind)
 
--- a correct formula for a log with so many fields
-pub record Correct (fields : ℕ) (f : Formula) : Type 0 where
+-- well formed up to END, for a log with so many fields: nothing that 1 to 4 and 12 are told for
+pub record WellFormed (fields : ℕ) (f : Formula) : Type 0 where
   -- "TIED variable: up to 8 times"
   pub tied : length (f .tied) ≤ 8
   -- "1 to 16 states"
   pub nonempty : 1 ≤ length (f .states)
   pub states : length (f .states) ≤ 16
   pub each : All StateFits (f .states)
-  -- no "kind, operator, field, variable or state does not exist"
-  pub values : All (Exists fields (length (f .states))) (commands f)
+  -- no "kind, operator, field, variable .. does not exist"
+  pub values : All (Exists fields) (commands f)
+
+-- a correct formula for a log with so many fields
+pub record Correct (fields : ℕ) (f : Formula) : Type 0 where
+  pub formed : WellFormed fields f
+  -- no "STEP or COUNT naming a state that the file doesn't declare"
+  pub named : All (Declared (length (f .states))) (commands f)
   -- not "state 0 accepts or rejects"
   pub start : deadStart (f .states) ≡ false
   -- nothing unbound

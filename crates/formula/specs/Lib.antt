@@ -3,6 +3,7 @@ pub mod Formula
 pub mod Encode
 pub mod Unbound
 pub mod Correct
+pub mod Absent
 pub mod Read
 pub mod Lookup
 pub mod inner

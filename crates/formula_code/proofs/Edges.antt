@@ -17,13 +17,11 @@ use Rattle.formula_code.specs.declared.Draft.{Draft}
 use Rattle.formula.specs.declared.Summary.{Summary}
 use Rattle.formula.specs.Formula.{Expr, Clause, TEST, TESTV, BIND, GATHER, Step, State, Formula}
 use Rattle.formula.specs.Encode.{Command, TIED, STATE, STEP, CLAUSE, guardCommands, stepCommands, stateCommands, commands}
-use Rattle.formula.specs.Correct.{StateFits}
+use Rattle.formula.specs.Correct.{Exists, StateFits, WellFormed}
 use Rattle.formula.specs.Unbound.{binds, Edge, edgesFrom, mark, round, rounds, unbound}
 use Rattle.formula_code.specs.inner.Scan.{emptyDraft}
 use Rattle.closure.specs.inner.Reach.{Edges, edges, markBy, roundFrom, reachFrom, reachOf}
 use Rattle.formula.proofs.Basics.{all-left, all-right}
-use Rattle.formula.proofs.Commands.{Operands}
-use Rattle.formula.proofs.Counts.{Counts}
 use Rattle.formula_code.proofs.Outline.{set-mark}
 use Rattle.formula_code.proofs.SameCommands.{addC, draftAfter}
 
@@ -208,7 +206,7 @@ module _ (fields : ℕ) where
     seen : d .summary .states ≡ states
 
   keep-clause : (d : Draft) (es : List Edge) (s n t : ℕ) (xs : List Clause) (q : Option Expr) (c : Clause) → length es < 128
-      → Operands fields (CLAUSE c) → Keeps d (es ++ (edge n t xs q ∷ [])) s → Keeps (addC d (CLAUSE c)) (es ++ (edge n t (xs ++ (c ∷ [])) q ∷ [])) s
+      → Exists fields (CLAUSE c) → Keeps d (es ++ (edge n t xs q ∷ [])) s → Keeps (addC d (CLAUSE c)) (es ++ (edge n t (xs ++ (c ∷ [])) q ∷ [])) s
   unfolding binds
   keep-clause d es s n t xs q (TEST f o x) few k h = record { rep = rep-plain (kept d) es n t xs q (TEST f o x) few (λ v. refl) (h .rep); seen = h .seen }
   keep-clause d es s n t xs q (TESTV f o v) few k h = record { rep = rep-plain (kept d) es n t xs q (TESTV f o v) few (λ w. refl) (h .rep); seen = h .seen }
@@ -216,7 +214,7 @@ module _ (fields : ℕ) where
   keep-clause d es s n t xs q (BIND f v) few k h = record { rep = rep-bind (kept d) es n t xs q f v few (k .1) (h .rep); seen = h .seen }
 
   keep-clauses : (d : Draft) (es : List Edge) (s n t : ℕ) (xs ys : List Clause) (q : Option Expr) → length es < 128
-      → All (Operands fields) (map CLAUSE ys) → Keeps d (es ++ (edge n t xs q ∷ [])) s
+      → All (Exists fields) (map CLAUSE ys) → Keeps d (es ++ (edge n t xs q ∷ [])) s
       → Keeps (draftAfter d (map CLAUSE ys)) (es ++ (edge n t (xs ++ ys) q ∷ [])) s
   unfolding draftAfter
   keep-clauses d es s n t xs [] q few k h = subst (λ z. Keeps d (es ++ (edge n t z q ∷ [])) s) (sym (append-nil xs)) h
@@ -230,7 +228,7 @@ module _ (fields : ℕ) where
   keep-guard d es s (some e) h = record { rep = h .rep; seen = h .seen }
 
   -- a step with its clauses and guard is one more
-  keep-step : (d : Draft) (es : List Edge) (n : ℕ) (t : Step) → length es < 128 → All (Operands fields) (stepCommands t) → Keeps d es (suc n)
+  keep-step : (d : Draft) (es : List Edge) (n : ℕ) (t : Step) → length es < 128 → All (Exists fields) (stepCommands t) → Keeps d es (suc n)
       → Keeps (draftAfter d (stepCommands t)) (es ++ (record { from = n; step = t } ∷ [])) (suc n)
   unfolding draftAfter stepCommands
   keep-step d es n t few k h =
@@ -244,12 +242,12 @@ module _ (fields : ℕ) where
       } in
       let r₂ =
       keep-clauses d₁ es (suc n) n (t .target) [] (t .clauses) (t .guard) few
-      (all-left (Operands fields) (map CLAUSE (t .clauses)) (guardCommands (t .guard)) (k .1)) r₁ in
+      (all-left (Exists fields) (map CLAUSE (t .clauses)) (guardCommands (t .guard)) (k .1)) r₁ in
       subst (λ (x : Draft). Keeps x (es ++ (record { from = n; step = t } ∷ [])) (suc n))
       (sym (after-append d₁ (map CLAUSE (t .clauses)) (guardCommands (t .guard))))
       (keep-guard (draftAfter d₁ (map CLAUSE (t .clauses))) (es ++ (record { from = n; step = t } ∷ [])) (suc n) (t .guard) r₂)
 
-  keep-steps : (d : Draft) (es : List Edge) (n : ℕ) (ts : List Step) → length es + length ts ≤ 128 → All (Operands fields) (flatMap stepCommands ts)
+  keep-steps : (d : Draft) (es : List Edge) (n : ℕ) (ts : List Step) → length es + length ts ≤ 128 → All (Exists fields) (flatMap stepCommands ts)
       → Keeps d es (suc n) → Keeps (draftAfter d (flatMap stepCommands ts)) (es ++ map (λ (t : Step). record { from = n; step = t }) ts) (suc n)
   unfolding draftAfter flatMap
   keep-steps d es n [] few k h = subst (λ z. Keeps d z (suc n)) (sym (append-nil es)) h
@@ -258,8 +256,8 @@ module _ (fields : ℕ) where
       let e : Edge = record { from = n; step = t } in
       let r =
       keep-steps d₁ (es ++ (e ∷ [])) n ts (let s = size-snoc es e in omega arith)
-      (all-right (Operands fields) (stepCommands t) (flatMap stepCommands ts) k)
-      (keep-step d es n t (omega arith) (all-left (Operands fields) (stepCommands t) (flatMap stepCommands ts) k) h) in
+      (all-right (Exists fields) (stepCommands t) (flatMap stepCommands ts) k)
+      (keep-step d es n t (omega arith) (all-left (Exists fields) (stepCommands t) (flatMap stepCommands ts) k) h) in
       subst (λ (x : Draft). Keeps x (es ++ (e ∷ map (λ (t : Step). record { from = n; step = t }) ts)) (suc n))
       (sym (after-append d (stepCommands t) (flatMap stepCommands ts)))
       (subst (λ z. Keeps (draftAfter d₁ (flatMap stepCommands ts)) z (suc n)) (append-snoc es e (map (λ (t : Step). record { from = n; step = t }) ts))
@@ -267,7 +265,7 @@ module _ (fields : ℕ) where
 
   -- the states from number n on
   keep-states : (d : Draft) (es : List Edge) (n : ℕ) (xs : List State) → length es + 8 * length xs ≤ 128 → All StateFits xs
-      → All (Operands fields) (flatMap stateCommands xs) → Keeps d es n → Rep (kept (draftAfter d (flatMap stateCommands xs))) (es ++ edgesFrom n xs)
+      → All (Exists fields) (flatMap stateCommands xs) → Keeps d es n → Rep (kept (draftAfter d (flatMap stateCommands xs))) (es ++ edgesFrom n xs)
   unfolding draftAfter flatMap stateCommands edgesFrom
   keep-states d es n [] few a k h = subst (Rep (kept d)) (sym (append-nil es)) (h .rep)
   keep-states d es n (x ∷ xs) few a k h =
@@ -290,12 +288,12 @@ module _ (fields : ℕ) where
         seen = add-one (d .summary .states) ∙ ap suc (h .seen);
       } in
       let r₁ =
-      keep-steps d₀ es n (x .steps) (omega arith) (all-left (Operands fields) (flatMap stepCommands (x .steps)) (flatMap stateCommands xs) (k .1))
+      keep-steps d₀ es n (x .steps) (omega arith) (all-left (Exists fields) (flatMap stepCommands (x .steps)) (flatMap stateCommands xs) (k .1))
       r₀ in
       let l : length (es ++ ts) ≡ length es + length (x .steps) = length-append es ts ∙ ap (λ j. length es + j) (length-map (x .steps) (in-state n)) in
       let r₂ =
       keep-states d₁ (es ++ ts) (suc n) xs (omega arith) (a .1)
-      (all-right (Operands fields) (flatMap stepCommands (x .steps)) (flatMap stateCommands xs) (k .1)) r₁ in
+      (all-right (Exists fields) (flatMap stepCommands (x .steps)) (flatMap stateCommands xs) (k .1)) r₁ in
       subst (λ (y : Draft). Rep (kept y) (es ++ (ts ++ edgesFrom (suc n) xs)))
       (sym (after-append d₀ (flatMap stepCommands (x .steps)) (flatMap stateCommands xs)))
       (subst (Rep (kept (draftAfter d₁ (flatMap stateCommands xs)))) (append-assoc es ts (edgesFrom (suc n) xs)) r₂)
@@ -325,13 +323,13 @@ module _ (fields : ℕ) where
   keep-start = record { rep = rep-start; seen = refl }
 
   -- the steps of a formula
-  pub steps-kept : (f : Formula) → Counts f → All (Operands fields) (commands f) → Rep (kept (draftAfter emptyDraft (commands f))) (edgesFrom 0 (f .states))
+  pub steps-kept : (f : Formula) → WellFormed fields f → Rep (kept (draftAfter emptyDraft (commands f))) (edgesFrom 0 (f .states))
   unfolding commands
-  steps-kept f c k =
+  steps-kept f c =
       let n = c .states in
       subst (λ (y : Draft). Rep (kept y) (edgesFrom 0 (f .states))) (sym (after-append emptyDraft (map TIED (f .tied)) (flatMap stateCommands (f .states))))
       (keep-states (draftAfter emptyDraft (map TIED (f .tied))) [] 0 (f .states) (omega arith) (c .each)
-      (all-right (Operands fields) (map TIED (f .tied)) (flatMap stateCommands (f .states)) k) (keep-tied emptyDraft [] 0 (f .tied) keep-start))
+      (all-right (Exists fields) (map TIED (f .tied)) (flatMap stateCommands (f .states)) (c .values)) (keep-tied emptyDraft [] 0 (f .tied) keep-start))
 
 mark-rep : (m : List Bool) (v : ℕ) (x : Edge) (a b : ℕ) (c : Bool) → a ≡ x .from → b ≡ x .step .target → c ≡ binds v (x .step .clauses)
     → markBy m a b c ≡ mark v m x

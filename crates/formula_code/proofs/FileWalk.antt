@@ -11,6 +11,7 @@ use lib.ListN.{length, take, drop, length-append, length-drop}
 use Rattle.base.proofs.Lists.{rest-drop}
 use Rattle.base.specs.Lists.{Bytes}
 use Rattle.command_reader.proofs.Next as NextType
+use Rattle.formula.specs.Correct.{Exists}
 use Rattle.formula.specs.declared.Summary.{Summary}
 use Rattle.formula_code.specs.declared.Draft.{Draft}
 use Rattle.formula_code.specs.declared.Scan.{Scan}
@@ -22,7 +23,7 @@ use Rattle.formula.specs.Formula.{TEST, TESTV, BIND, GATHER}
 use Rattle.formula.specs.Encode.{Command, TIED, STATE, STEP, CLAUSE, GUARD, encodeCommand}
 use Rattle.formula.specs.Read.{Next, command, end, bad, next}
 use Rattle.formula.proofs.Basics.{bytes-drop}
-use Rattle.formula.proofs.Commands.{Fits, Operands, Takes, next-taken}
+use Rattle.formula.proofs.Commands.{Fits, Takes, next-taken}
 use Rattle.formula.proofs.Reading.{encode-long}
 use Rattle.command_reader.specs.inner.Take.{commandShape, NextEnd, goes-on, ends, breaks, nextEnd, nextShape}
 use Rattle.formula_code.specs.inner.Scan.{Counted, Ready, Within, advanceBy, kindsWith, tableWith, tiesWith, countWith, fromWith, toWith}
@@ -68,7 +69,7 @@ Known s bs (goes-on c u places) = KeptFacts s c u bs
 Known s bs (ends places) = 0 < length bs
 Known s bs (breaks r) = Unit {0}
 
-ready-shape : (fields : ℕ) (s : Summary) (c : Command) → Fits s c → Operands fields c → Ready s (commandShape c)
+ready-shape : (fields : ℕ) (s : Summary) (c : Command) → Fits s c → Exists fields c → Ready s (commandShape c)
 ready-shape fields s (TIED v) f o = (f .1, o)
 ready-shape fields s (STATE k) f o = f
 ready-shape fields s (STEP t) f o = (f .0, f .2)

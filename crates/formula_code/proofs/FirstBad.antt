@@ -11,10 +11,10 @@ use Rattle.base.specs.Lists.{All}
 use Rattle.formula.specs.Formula.{Leaf, CONST, VAR, COUNT, SUM, LENGTH, DIFFERENT, Clause, TEST, TESTV, BIND, GATHER}
 use Rattle.formula.specs.Encode.{Command, TIED, STATE, STEP, CLAUSE, GUARD, encodeClause, encodeCommand}
 use Rattle.formula.specs.Unbound.{binds}
+use Rattle.formula.specs.Correct.{LeafExists, Exists}
 use Rattle.formula.specs.declared.Summary.{Summary}
 use Rattle.formula.specs.Read.{start, advance, absentLeaf, absentIn, firstAbsent, seenAfter, ownAfter, unboundLeaf, unboundIn, firstUnbound}
-use Rattle.formula.proofs.Exprs.{LeafReads}
-use Rattle.formula.proofs.Commands.{Fits, Operands}
+use Rattle.formula.proofs.Commands.{Fits}
 use Rattle.formula.proofs.Assembling.{Follows}
 use Rattle.expression_reader.specs.inner.Places.{nowhere, stateKey, picked, lowestOf}
 use Rattle.command_reader.specs.inner.Take.{commandShape, guardNoted}
@@ -103,7 +103,7 @@ module _ (fields n : ℕ) (most : n ≤ 16) where
   late-state : (t : ℕ) → late (stateKey t) ≡ not (ltb t n)
   late-state t = picked-state (replicate 128 false) (128 + n) t ∙ ap not (state-key t .below n most)
 
-  absent-leaf : (s : ℕ) (own : List Bool) → s < 16 → (l : Leaf) → LeafReads l → LeafNotes late s own (absentLeaf n) l
+  absent-leaf : (s : ℕ) (own : List Bool) → s < 16 → (l : Leaf) → LeafExists l → LeafNotes late s own (absentLeaf n) l
   absent-leaf s own low (CONST x) k = idle late _
   absent-leaf s own low (VAR v) k = var-notes late s own v false (getD own v false) (late-var v s k low) refl k low
   absent-leaf s own low (COUNT t) k = notes late 2 (stateKey t) (not (ltb t n)) (late-state t) (state-key t .most) (omega arith)
@@ -111,7 +111,7 @@ module _ (fields n : ℕ) (most : n ≤ 16) where
   absent-leaf s own low (LENGTH v) k = idle late _
   absent-leaf s own low (DIFFERENT v) k = idle late _
 
-  absent-in : (s : Summary) (seen : ℕ) (own : List Bool) (clauses : List Clause) (c : Command) → Kept s seen own clauses → Operands fields c
+  absent-in : (s : Summary) (seen : ℕ) (own : List Bool) (clauses : List Clause) (c : Command) → Kept s seen own clauses → Exists fields c
       → Reads late (length (encodeCommand c)) (λ at t. placesBy seen own at c t) (λ at. absentIn n at c)
   unfolding encodeCommand encodeClause
   absent-in s seen own clauses (TIED v) h k = idle late _
@@ -126,7 +126,7 @@ module _ (fields n : ℕ) (most : n ≤ 16) where
       behind late (expr-reads late (seen - 1) own (absentLeaf n) (absent-leaf (seen - 1) own (omega (arith, h .most))) e k)
 
   absent-all : (s : Summary) (seen : ℕ) (own : List Bool) (clauses : List Clause) (cs : List Command) → Kept s seen own clauses
-      → All (Operands fields) cs → Follows s cs
+      → All (Exists fields) cs → Follows s cs
       → Reads late (length (flatMap encodeCommand cs)) (λ at t. placesFrom seen own at t cs) (λ at. firstAbsent n at cs)
   unfolding placesFrom firstAbsent flatMap
   absent-all s seen own clauses [] h k f = idle late _
@@ -136,7 +136,7 @@ module _ (fields n : ℕ) (most : n ≤ 16) where
       (absent-all (advance s c) (seenAfter seen c) (ownWith own (commandShape c)) (ownAfter clauses c) cs (kept-on s seen own clauses c (f .0) h)
       (k .1) (f .1)))
 
-module _ (fields n : ℕ) (cs : List Command) (k : All (Operands fields) cs) (f : Follows start cs) (most : n ≤ 16)
+module _ (fields n : ℕ) (cs : List Command) (k : All (Exists fields) cs) (f : Follows start cs) (most : n ≤ 16)
     (l : length (flatMap encodeCommand cs) ≤ nowhere) where
   absent-held : Holds (late fields n most) (placesFrom 0 (replicate 8 false) 0 (replicate 145 nowhere) cs) nowhere (firstAbsent n 0 cs)
   absent-held = held (late fields n most) (absent-all fields n most start 0 (replicate 8 false) [] cs kept-start k f) l
@@ -159,7 +159,7 @@ module _ (fields : ℕ) (free : List Bool) (un : ℕ → ℕ → Bool) (same : (
   loose-state : (t : ℕ) → loose (stateKey t) ≡ false
   loose-state t = picked-state free 145 t ∙ ap not (lt-ltb (stateKey t) 145 (state-key t .most))
 
-  unbound-leaf : (seen : ℕ) (own : List Bool) (clauses : List Clause) → Marks own clauses → seen - 1 < 16 → (l : Leaf) → LeafReads l
+  unbound-leaf : (seen : ℕ) (own : List Bool) (clauses : List Clause) → Marks own clauses → seen - 1 < 16 → (l : Leaf) → LeafExists l
       → LeafNotes loose (seen - 1) own (unboundLeaf un seen clauses) l
   unbound-leaf seen own clauses marks low (CONST x) k = idle loose _
   unbound-leaf seen own clauses marks low (VAR v) k =
@@ -169,7 +169,7 @@ module _ (fields : ℕ) (free : List Bool) (un : ℕ → ℕ → Bool) (same : (
   unbound-leaf seen own clauses marks low (LENGTH v) k = idle loose _
   unbound-leaf seen own clauses marks low (DIFFERENT v) k = idle loose _
 
-  unbound-in : (s : Summary) (seen : ℕ) (own : List Bool) (clauses : List Clause) (c : Command) → Kept s seen own clauses → Operands fields c
+  unbound-in : (s : Summary) (seen : ℕ) (own : List Bool) (clauses : List Clause) (c : Command) → Kept s seen own clauses → Exists fields c
       → Reads loose (length (encodeCommand c)) (λ at t. placesBy seen own at c t) (λ at. unboundIn un seen clauses at c)
   unfolding encodeCommand encodeClause
   unbound-in s seen own clauses (TIED v) h k = idle loose _
@@ -186,7 +186,7 @@ module _ (fields : ℕ) (free : List Bool) (un : ℕ → ℕ → Bool) (same : (
       (expr-reads loose (seen - 1) own (unboundLeaf un seen clauses) (unbound-leaf seen own clauses (h .marks) (omega (arith, h .most))) e k)
 
   unbound-all : (s : Summary) (seen : ℕ) (own : List Bool) (clauses : List Clause) (cs : List Command) → Kept s seen own clauses
-      → All (Operands fields) cs → Follows s cs
+      → All (Exists fields) cs → Follows s cs
       → Reads loose (length (flatMap encodeCommand cs)) (λ at t. placesFrom seen own at t cs) (λ at. firstUnbound un seen clauses at cs)
   unfolding placesFrom firstUnbound flatMap
   unbound-all s seen own clauses [] h k f = idle loose _
@@ -196,7 +196,7 @@ module _ (fields : ℕ) (free : List Bool) (un : ℕ → ℕ → Bool) (same : (
       (unbound-all (advance s c) (seenAfter seen c) (ownWith own (commandShape c)) (ownAfter clauses c) cs (kept-on s seen own clauses c (f .0) h)
       (k .1) (f .1)))
 
-  module _ (cs : List Command) (k : All (Operands fields) cs) (f : Follows start cs) (l : length (flatMap encodeCommand cs) ≤ nowhere) where
+  module _ (cs : List Command) (k : All (Exists fields) cs) (f : Follows start cs) (l : length (flatMap encodeCommand cs) ≤ nowhere) where
     unbound-held : Holds loose (placesFrom 0 (replicate 8 false) 0 (replicate 145 nowhere) cs) nowhere (firstUnbound un 0 [] 0 cs)
     unbound-held = held loose (unbound-all start 0 (replicate 8 false) [] cs kept-start k f) l
 

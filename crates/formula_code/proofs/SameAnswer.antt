@@ -163,7 +163,7 @@ module _ (fields : ℕ) (l : List ℕ) (w : Whole fields l (suc (length l)) star
 
   table-is : draft .table ≡ stepTable read-as
   unfolding emptyDraft start
-  table-is = table-after emptyDraft (w .es) ∙ ap (fill start 0 (replicate 128 0)) (sym same-commands) ∙ fill-table read-as (complete .counts)
+  table-is = table-after emptyDraft (w .es) ∙ ap (fill start 0 (replicate 128 0)) (sym same-commands) ∙ fill-table fields read-as (complete .formed)
 
   tied-is : mask (draft .ties) ≡ tiedMask read-as
   unfolding assemble tiedMask
@@ -182,7 +182,7 @@ module _ (fields : ℕ) (l : List ℕ) (w : Whole fields l (suc (length l)) star
       ∙ ap (λ z. getD z s false)
       (reach-is (kept draft) read-as v k
       (subst (λ cs. Rep (kept (draftAfter emptyDraft cs)) (edgesFrom 0 (read-as .states))) same-commands
-      (steps-kept fields read-as (complete .counts) (complete .operands))))
+      (steps-kept fields read-as (complete .formed))))
 
   -- the places are those of the commands
   places-is : draft .places ≡ placesFrom 0 (replicate 8 false) 0 (replicate 145 nowhere) (w .es)
@@ -202,7 +202,7 @@ module _ (fields : ℕ) (l : List ℕ) (w : Whole fields l (suc (length l)) star
   judge-is h free m =
       let n = states-is in
       let cs = w .es in
-      let few : length (read-as .states) ≤ 16 = complete .counts .states in
+      let few : length (read-as .states) ≤ 16 = complete .formed .states in
       let a : lowestOf (replicate 128 false) (128 + draft .summary .states) (draft .places) ≡ num (firstAbsent (length (read-as .states)) 0 cs) =
       ap (λ k. lowestOf (replicate 128 false) (128 + k) (draft .places)) n
       ∙ ap (lowestOf (replicate 128 false) (128 + length (read-as .states))) places-is
@@ -210,7 +210,7 @@ module _ (fields : ℕ) (l : List ℕ) (w : Whole fields l (suc (length l)) star
       let u : lowestOf free 145 (draft .places) ≡ num (firstUnbound (isUnbound read-as) 0 [] 0 cs) =
       ap (lowestOf free 145) places-is
       ∙ unbound-place fields free (isUnbound read-as) (marks-are free m) cs (w .reached .operands) (w .reached .follows) (short h) in
-      let z = ap (λ k. ltb 1 (getD k 0 0)) kinds-is ∙ dead-start (read-as .states) (complete .nonempty) in
+      let z = ap (λ k. ltb 1 (getD k 0 0)) kinds-is ∙ dead-start (read-as .states) (complete .formed .nonempty) in
       rw (
         a,
         u,

@@ -293,15 +293,15 @@ leaf-used (LENGTH v) rest = omega arith
 leaf-used (DIFFERENT v) rest = omega arith
 
 -- its value over its bytes
-leaf-encode : (states : ℕ) (c : Config) → length (c .lists) ≡ 4 → (l : Leaf) (rest : List ℕ) → LeafExists states l
+leaf-encode : (c : Config) → length (c .lists) ≡ 4 → (l : Leaf) (rest : List ℕ) → LeafExists l
     → leafValue (c .values) (c .counters) (tallies (c .lists)) (encodeLeaf l ++ rest) ≡ leaf c l
 unfolding leafValue
-leaf-encode states c k (CONST x) rest h = const-value x rest h
-leaf-encode states c k (VAR v) rest h = refl
-leaf-encode states c k (COUNT s) rest h = refl
-leaf-encode states c k (SUM v) rest h = let e : 8 + v - 8 ≡ v = omega arith in rw e (sum-at (c .lists) k v h)
-leaf-encode states c k (LENGTH v) rest h = let e : 8 + v - 4 ≡ 4 + v = omega arith in rw e (length-at (c .lists) k v h)
-leaf-encode states c k (DIFFERENT v) rest h = different-at (c .lists) k v
+leaf-encode c k (CONST x) rest h = const-value x rest h
+leaf-encode c k (VAR v) rest h = refl
+leaf-encode c k (COUNT s) rest h = refl
+leaf-encode c k (SUM v) rest h = let e : 8 + v - 8 ≡ v = omega arith in rw e (sum-at (c .lists) k v h)
+leaf-encode c k (LENGTH v) rest h = let e : 8 + v - 4 ≡ 4 + v = omega arith in rw e (length-at (c .lists) k v h)
+leaf-encode c k (DIFFERENT v) rest h = different-at (c .lists) k v
 
 -- every expression has a command
 pub no-depth : (e : Expr) → depth e ≤ 0 → ⊥
@@ -318,7 +318,7 @@ no-depth (OR a b) h = omega arith
 no-depth (IF a b d) h = omega arith
 
 -- On an expression's bytes, whatever follows them, the code's value is the expression's, and it takes exactly those bytes.
-module _ (states : ℕ) (c : Config) (four : length (c .lists) ≡ 4) where
+module _ (c : Config) (four : length (c .lists) ≡ 4) where
   abbrev leafAt : List ℕ → ℕ
   leafAt = leafValue (c .values) (c .counters) (tallies (c .lists))
 
@@ -335,11 +335,11 @@ module _ (states : ℕ) (c : Config) (four : length (c .lists) ≡ 4) where
   unfolding evaluated
   two o a b n h p q l = rw h (two-read (evaluated n leafAt) o (value c a) (value c b) (encodeExpr a) (encodeExpr b) l h (p (encodeExpr b ++ l)) (q l))
 
-  pub evaluate-encode : (e : Expr) (n : ℕ) → Leaves (LeafExists states) e → depth e ≤ n → (l : List ℕ)
+  pub evaluate-encode : (e : Expr) (n : ℕ) → Leaves LeafExists e → depth e ≤ n → (l : List ℕ)
       → evaluated n (leafValue (c .values) (c .counters) (tallies (c .lists))) (encodeExpr e ++ l) ≡ record { value = value c e; used = length (encodeExpr e) }
   unfolding evaluated encodeExpr depth value operandsOf applied
   evaluate-encode e zero h k l = absurd (no-depth e k)
-  evaluate-encode (LEAF x) (suc n) h k l = rw (leaf-alone x l, leaf-used x l, leaf-encode states c four x l h)
+  evaluate-encode (LEAF x) (suc n) h k l = rw (leaf-alone x l, leaf-used x l, leaf-encode c four x l h)
   evaluate-encode (ADD a b) (suc n) h k l = two 0x23 a b n refl (evaluate-encode a n (h .0) (omega arith)) (evaluate-encode b n (h .1) (omega arith)) l
   evaluate-encode (SUB a b) (suc n) h k l = two 0x24 a b n refl (evaluate-encode a n (h .0) (omega arith)) (evaluate-encode b n (h .1) (omega arith)) l
   evaluate-encode (LESS a b) (suc n) h k l = two 0x25 a b n refl (evaluate-encode a n (h .0) (omega arith)) (evaluate-encode b n (h .1) (omega arith)) l

@@ -449,11 +449,11 @@ module _ (fields : List Kind) (c : Config) (ks : List Clause) (P : Leaf → Type
       same-branches n a b d (judge-encode a n (h .0) (omega arith)) (judge-encode b n (h .1) (omega arith)) (judge-encode d n (h .2) (omega arith))
 
 -- marks that agree with the definition read a leaf as it judges the leaf
-module _ (fields : List Kind) (c : Config) (ks : List Clause) (states : ℕ) (marks : Marks)
+module _ (fields : List Kind) (c : Config) (ks : List Clause) (marks : Marks)
     (same : (v : ℕ) → v < 4 → getD (marks .differents) v false ≡ not (gathers ks v)) where
   pub marked-rises : ((v : ℕ) → v < 8 → getD (marks .variables) v false ≡ (isHeld c v || fieldRises fields (firstBind ks v)))
       → ((v : ℕ) → v < 4 → getD (marks .sums) v false ≡ gathersRising fields ks v)
-      → (x : Leaf) (l : List ℕ) → LeafExists states x → leafMarked marks (encodeLeaf x ++ l) ≡ leafRises fields c ks x
+      → (x : Leaf) (l : List ℕ) → LeafExists x → leafMarked marks (encodeLeaf x ++ l) ≡ leafRises fields c ks x
   unfolding leafMarked
   marked-rises grow grow′ (CONST x) l h = refl
   marked-rises grow grow′ (VAR v) l h = grow v h
@@ -463,7 +463,7 @@ module _ (fields : List Kind) (c : Config) (ks : List Clause) (states : ℕ) (ma
   marked-rises grow grow′ (DIFFERENT v) l h = let e : 8 + v - 8 ≡ v = omega arith in rw e (same v h)
 
   pub marked-falls : marks .variables ≡ c .held → ((v : ℕ) → v < 4 → getD (marks .sums) v false ≡ not (gathers ks v))
-      → (x : Leaf) (l : List ℕ) → LeafExists states x → leafMarked marks (encodeLeaf x ++ l) ≡ leafFalls fields c ks x
+      → (x : Leaf) (l : List ℕ) → LeafExists x → leafMarked marks (encodeLeaf x ++ l) ≡ leafFalls fields c ks x
   unfolding leafMarked
   marked-falls e fall (CONST x) l h = refl
   marked-falls e fall (VAR v) l h = rw e

@@ -82,15 +82,15 @@ module _ (f values : List ℕ) (e : Values) (same : (g : ℕ) → getD values g 
       omega arith
 
   -- the clauses of a step, up to a byte that is no clause's command
-  gather-clauses : (m n fuel at : ℕ) (ks : List Clause) (r : List ℕ) (ls : List (List ℕ)) (l : List ℕ) → drop at f ≡ flatMap encodeClause ks ++ r
-      → widthOf (getD r 0 0) ≡ 0 → All (λ k. Exists m n (CLAUSE k)) ks → length ks < fuel → Room ls ks → Holds ls l
+  gather-clauses : (m fuel at : ℕ) (ks : List Clause) (r : List ℕ) (ls : List (List ℕ)) (l : List ℕ) → drop at f ≡ flatMap encodeClause ks ++ r
+      → widthOf (getD r 0 0) ≡ 0 → All (λ k. Exists m (CLAUSE k)) ks → length ks < fuel → Room ls ks → Holds ls l
       → Holds (gatherAll ls e ks) (gatherFrom fuel f values at l)
   unfolding gatherFrom flatMap encodeClause
-  gather-clauses m n zero at ks r ls l h stop x k room w = absurd (omega arith)
-  gather-clauses m n (suc fuel) at [] r ls l h stop x k room w = rw (first-byte f r at h, stop) w
-  gather-clauses m n (suc fuel) at (c ∷ ks) r ls l h stop x k room w =
+  gather-clauses m zero at ks r ls l h stop x k room w = absurd (omega arith)
+  gather-clauses m (suc fuel) at [] r ls l h stop x k room w = rw (first-byte f r at h, stop) w
+  gather-clauses m (suc fuel) at (c ∷ ks) r ls l h stop x k room w =
       rw (wide, ne-eqb (length (encodeClause c)) 0 (clause-some c))
-      (next (λ p ms a q t u. gather-clauses m n fuel p ks r ms a q stop (x .1) (omega arith) t u) c here x room)
+      (next (λ p ms a q t u. gather-clauses m fuel p ks r ms a q stop (x .1) (omega arith) t u) c here x room)
     where
       here : drop at f ≡ encodeClause c ++ (flatMap encodeClause ks ++ r)
       here = h ∙ append-assoc (encodeClause c) (flatMap encodeClause ks) r
@@ -105,7 +105,7 @@ module _ (f values : List ℕ) (e : Values) (same : (g : ℕ) → getD values g 
       -- the clauses behind it, from a place on with the lists so far, hold what they gather
       next : ((p : ℕ) (ms : List (List ℕ)) (a : List ℕ) → drop p f ≡ flatMap encodeClause ks ++ r → Room ms ks → Holds ms a
           → Holds (gatherAll ms e ks) (gatherFrom fuel f values p a))
-          → (d : Clause) → drop at f ≡ encodeClause d ++ (flatMap encodeClause ks ++ r) → All (λ j. Exists m n (CLAUSE j)) (d ∷ ks) → Room ls (d ∷ ks)
+          → (d : Clause) → drop at f ≡ encodeClause d ++ (flatMap encodeClause ks ++ r) → All (λ j. Exists m (CLAUSE j)) (d ∷ ks) → Room ls (d ∷ ks)
           → Holds (gatherAll ls e (d ∷ ks)) (gatherFrom fuel f values (at + length (encodeClause d)) (gatherIn f values at l))
       next more (TEST g o y) q z t = rw (gather-nothing at 0x12 l (first-byte f _ at q) (λ p. omega arith)) (more _ ls l (behind (TEST g o y) q) t w)
       next more (TESTV g o v) q z t = rw (gather-nothing at 0x13 l (first-byte f _ at q) (λ p. omega arith)) (more _ ls l (behind (TESTV g o v) q) t w)
@@ -116,10 +116,10 @@ module _ (f values : List ℕ) (e : Values) (same : (g : ℕ) → getD values g 
           (holds-add ls l w v (field e g) (z .0 .1) (room-here ls g v ks (z .0 .1) t)))
 
 -- the bytes behind a step's clauses are no clause's command
-behind-clauses : (fields states : ℕ) (f : List ℕ) (at : ℕ) (s : Step) (h : StepAt fields states f at s)
+behind-clauses : (fields : ℕ) (f : List ℕ) (at : ℕ) (s : Step) (h : StepAt fields f at s)
     → widthOf (getD (guardBytes (s .guard) ++ h .after) 0 0) ≡ 0
 unfolding widthOf
-behind-clauses fields states f at s h = go (s .guard)
+behind-clauses fields f at s h = go (s .guard)
   where
     low : (b : ℕ) → b < 0x12 → widthOf b ≡ 0
     low b k = rw (ne-eqb b 0x12 (λ q. omega arith), ne-eqb b 0x13 (λ q. omega arith), ne-eqb b 0x14 (λ q. omega arith), ne-eqb b 0x17 (λ q. omega arith))
@@ -129,20 +129,20 @@ behind-clauses fields states f at s h = go (s .guard)
     go (some g) = refl
 
 -- a step on an event whose fields the code holds
-step-holds : (fields states : ℕ) (f : List ℕ) (at : ℕ) (s : Step) → StepAt fields states f at s → (values : List ℕ) (e : Values)
+step-holds : (fields : ℕ) (f : List ℕ) (at : ℕ) (s : Step) → StepAt fields f at s → (values : List ℕ) (e : Values)
     → ((g : ℕ) → getD values g 0 ≡ field e g) → (ls : List (List ℕ)) (l : List ℕ) → ((v : ℕ) → v < 4 → length (listOf ls v) < 32) → Holds ls l
     → Holds (gatherAll ls e (s .clauses)) (gatherStep f values at l)
 unfolding gatherStep
-step-holds fields states f at s h values e same ls l short w =
-    let b = behind-step fields states f at s h in
+step-holds fields f at s h values e same ls l short w =
+    let b = behind-step fields f at s h in
     let m = ap length b in
-    gather-clauses f values e same fields states (suc (length f)) (at + 2) (s .clauses) (guardBytes (s .guard) ++ h .after) ls l b
-    (behind-clauses fields states f at s h) (clauses-exist fields states (s .clauses) (s .guard) (parts-exist fields states f at s h))
+    gather-clauses f values e same fields (suc (length f)) (at + 2) (s .clauses) (guardBytes (s .guard) ++ h .after) ls l b
+    (behind-clauses fields f at s h) (clauses-exist fields (s .clauses) (s .guard) (parts-exist fields f at s h))
     (omega (
       arith,
       m,
       clauses-length (s .clauses),
-      inside fields states f at s h,
+      inside fields f at s h,
       length-drop (at + 2) f,
       length-append (flatMap encodeClause (s .clauses)) (guardBytes (s .guard) ++ h .after),
     )) (λ v k. omega (arith, short v k, added-once e (replicate 4 false) (s .clauses) v (h .fits .once) k)) w
@@ -160,7 +160,7 @@ padded x v e h i = go (decLt i 8)
 -- A correct log's bytes with the table of its events, and a correct formula's with the table of its steps.
 module _ (log : Log) (formula : Formula) (b places : List ℕ) (f table : List ℕ) (leads : Leads b places log)
     (widths : (n : ℕ) → n < length (log .events) → length ((eventAt log n) .values) ≤ 8) (correct : Correct (length (log .fields)) formula)
-    (chart : Charted (length (log .fields)) (length (formula .states)) formula f table) where
+    (chart : Charted (length (log .fields)) formula f table) where
   -- what is loaded has the event's fields
   loaded-fields : (n : ℕ) → n < length (log .events) → (g : ℕ)
       → getD ((loadedAt b (length (log .fields)) (getD places n 0)) .event .values) g 0 ≡ field ((eventAt log n) .values) g
@@ -175,7 +175,7 @@ module _ (log : Log) (formula : Formula) (b places : List ℕ) (f table : List �
   unfolding step
   word-holds p w l there short h = go (stepAt formula (p .state) (w % 8)) (chart .stands (p .state) (w % 8) (omega arith))
     where
-      go : (o : Option Step) → StepThere (length (log .fields)) (length (formula .states)) f (offsetOf table (p .state) (w % 8)) o
+      go : (o : Option Step) → StepThere (length (log .fields)) f (offsetOf table (p .state) (w % 8)) o
           → Holds ((stepTo o ((eventAt log (w / 8)) .values) p) .lists)
           (entryIn b places (length (log .fields)) f (offsetOf table (p .state) (w % 8)) (w / 8) l)
           × (targetIn f (offsetOf table (p .state) (w % 8)) (p .state) ≡ (stepTo o ((eventAt log (w / 8)) .values) p) .state)
@@ -187,12 +187,12 @@ module _ (log : Log) (formula : Formula) (b places : List ℕ) (f table : List �
           let a = offsetOf table (p .state) (w % 8) in
           let e = loadedAt b (length (log .fields)) (getD places (w / 8) 0) in
           let ne : a ≡ 0 → ⊥ = λ q. omega (arith, s .0) in
-          let i = inside (length (log .fields)) (length (formula .states)) f a t (s .1) in (
+          let i = inside (length (log .fields)) f a t (s .1) in (
             subst (Holds (gatherAll (p .lists) ((eventAt log (w / 8)) .values) (t .clauses)))
                 (entry-there b places (length (log .fields)) f a (w / 8) l ne i (getD places (w / 8) 0) e refl refl)
-                (step-holds (length (log .fields)) (length (formula .states)) f a t (s .1) (e .event .values) ((eventAt log (w / 8)) .values)
+                (step-holds (length (log .fields)) f a t (s .1) (e .event .values) ((eventAt log (w / 8)) .values)
                 (loaded-fields (w / 8) there) (p .lists) l short h),
-            sym (target-there f a (p .state) (t .target) ne i (sym (target-byte (length (log .fields)) (length (formula .states)) f a t (s .1)))),
+            sym (target-there f a (p .state) (t .target) ne i (sym (target-byte (length (log .fields)) f a t (s .1)))),
           )
 
   -- Reading words of a trail back leaves the lists gathered along it.

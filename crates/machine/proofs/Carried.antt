@@ -101,7 +101,7 @@ tally-add (a ∷ b ∷ c ∷ d ∷ []) (suc (suc (suc (suc v)))) x h k s = absur
 tally-add (a ∷ b ∷ c ∷ d ∷ z ∷ ls) v x h k s = absurd (omega arith)
 
 -- ls are the lists before the step, of which `fresh` tells which values are new
-module _ (fields states : ℕ) (e : Values) (ls : List (List ℕ)) (fresh : List Bool) (eight : fields ≤ 8) (is : IsFresh ls e fresh)
+module _ (fields : ℕ) (e : Values) (ls : List (List ℕ)) (fresh : List Bool) (eight : fields ≤ 8) (is : IsFresh ls e fresh)
     (short : (v : ℕ) → v < 4 → length (listOf ls v) < 4294967295) where
   -- the lists so far: those not marked are as before the step
   pub record Far (seen : List Bool) (far : List (List ℕ)) : Type 0 where
@@ -126,7 +126,7 @@ module _ (fields states : ℕ) (e : Values) (ls : List (List ℕ)) (fresh : List
           list-add-other far v u x ne ∙ h .as-before u l (sym (getD-set-other seen v u true false (λ p. ne (sym p))) ∙ n)
 
   carried-from : (seen : List Bool) (far : List (List ℕ)) (ks : List Clause) → Far seen far → Once seen ks
-      → All (λ k. Exists fields states (CLAUSE k)) ks → carryAll fresh e (tallies far) ks ≡ tallies (gatherAll far e ks)
+      → All (λ k. Exists fields (CLAUSE k)) ks → carryAll fresh e (tallies far) ks ≡ tallies (gatherAll far e ks)
   carried-from seen far [] h o x = refl
   carried-from seen far (TEST f p y ∷ ks) h o x = carried-from seen far ks h (o .1) (x .1)
   carried-from seen far (TESTV f p v ∷ ks) h o x = carried-from seen far ks h (o .1) (x .1)
@@ -141,6 +141,6 @@ module _ (fields states : ℕ) (e : Values) (ls : List (List ℕ)) (fresh : List
       rw (n, a) ih
 
   -- What code does to the tallies at the clauses of a step leaves the tallies of the lists after it.
-  pub carried : (ks : List Clause) → length ls ≡ 4 → Once (replicate 4 false) ks → All (λ k. Exists fields states (CLAUSE k)) ks
+  pub carried : (ks : List Clause) → length ls ≡ 4 → Once (replicate 4 false) ks → All (λ k. Exists fields (CLAUSE k)) ks
       → carryAll fresh e (tallies ls) ks ≡ tallies (gatherAll ls e ks)
   carried ks h o x = carried-from (replicate 4 false) ls ks (record { marks-4 = refl; lists-4 = h; as-before = λ v k n. refl }) o x

@@ -17,25 +17,25 @@ use Rattle.machine.proofs.Machine.{Premises, laws}
 use Rattle.runs.specs.inner.Laws.{Laws}
 
 -- no STEP names an absent state
-steps-declared : (fields states : ℕ) (ts : List Step) → All (FormulaCorrect.Exists fields states) (flatMap stepCommands ts)
+steps-declared : (states : ℕ) (ts : List Step) → All (FormulaCorrect.Declared states) (flatMap stepCommands ts)
     → All (λ (t : Step). t .target < states) ts
 unfolding flatMap stepCommands
-steps-declared fields states [] h = tt
-steps-declared fields states (t ∷ ts) h = (
+steps-declared states [] h = tt
+steps-declared states (t ∷ ts) h = (
   h .0,
-  steps-declared fields states ts
-      (all-right (FormulaCorrect.Exists fields states) (map CLAUSE (t .clauses) ++ guardCommands (t .guard)) (flatMap stepCommands ts) (h .1)),
+  steps-declared states ts
+      (all-right (FormulaCorrect.Declared states) (map CLAUSE (t .clauses) ++ guardCommands (t .guard)) (flatMap stepCommands ts) (h .1)),
 )
 
-targets-declared : (fields states : ℕ) (xs : List State) → All (FormulaCorrect.Exists fields states) (flatMap stateCommands xs)
+targets-declared : (states : ℕ) (xs : List State) → All (FormulaCorrect.Declared states) (flatMap stateCommands xs)
     → All (λ (s : State). All (λ (t : Step). t .target < states) (s .steps)) xs
 unfolding flatMap stateCommands
-targets-declared fields states [] h = tt
-targets-declared fields states (x ∷ xs) h = (
-  steps-declared fields states (x .steps)
-      (all-left (FormulaCorrect.Exists fields states) (flatMap stepCommands (x .steps)) (flatMap stateCommands xs) (h .1)),
-  targets-declared fields states xs
-      (all-right (FormulaCorrect.Exists fields states) (flatMap stepCommands (x .steps)) (flatMap stateCommands xs) (h .1)),
+targets-declared states [] h = tt
+targets-declared states (x ∷ xs) h = (
+  steps-declared states (x .steps)
+      (all-left (FormulaCorrect.Declared states) (flatMap stepCommands (x .steps)) (flatMap stateCommands xs) (h .1)),
+  targets-declared states xs
+      (all-right (FormulaCorrect.Declared states) (flatMap stepCommands (x .steps)) (flatMap stateCommands xs) (h .1)),
 )
 
 -- no dead start
@@ -53,12 +53,12 @@ module _ (g : Log) (fm : Formula) (log : LogCorrect.Recorded g) (formula : Formu
   premises =
       record {
         recorded = log;
-        some-state = formula .nonempty;
-        most-states = formula .states;
+        some-state = formula .formed .nonempty;
+        most-states = formula .formed .states;
         targets =
-            targets-declared (length (g .fields)) (length (fm .states)) (fm .states)
-            (all-right (FormulaCorrect.Exists (length (g .fields)) (length (fm .states))) (map TIED (fm .tied)) (flatMap stateCommands (fm .states))
-            (formula .values));
+            targets-declared (length (fm .states)) (fm .states)
+            (all-right (FormulaCorrect.Declared (length (fm .states))) (map TIED (fm .tied)) (flatMap stateCommands (fm .states))
+            (formula .named));
         open-start = open-start;
       }
 

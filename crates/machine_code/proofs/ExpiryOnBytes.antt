@@ -137,7 +137,7 @@ held-first fieldKinds true o = refl
 held-first fieldKinds false none = refl
 held-first fieldKinds false (some f) = refl
 
-module _ (fields states : ℕ) (f : List ℕ) (at : ℕ) (s : Step) (h : StepAt fields states f at s) (fieldKinds : List Kind) (rising : List Bool)
+module _ (fields : ℕ) (f : List ℕ) (at : ℕ) (s : Step) (h : StepAt fields f at s) (fieldKinds : List Kind) (rising : List Bool)
     (mark : (g : ℕ) → getD rising g false ≡ rises fieldKinds g) (ls : List (List ℕ)) (c : Configuration) (r : Ready c) (fresh : List Bool) (event : List ℕ)
     (k : Carries fields ls c event fresh) where
   -- the variables that the walk marks as growing are those that the definition calls rising
@@ -145,7 +145,7 @@ module _ (fields states : ℕ) (f : List ℕ) (at : ℕ) (s : Step) (h : StepAt 
       → getD ((walked f at c rising event) .grows) v false ≡ (isHeld (configOf ls c) v || fieldRises fieldKinds (firstBind (s .clauses) v))
   unfolding begun
   walk-grows v small =
-      ap (λ (w : Walked). getD (w .grows) v false) (walked-encode fields states f at s h c rising event)
+      ap (λ (w : Walked). getD (w .grows) v false) (walked-encode fields f at s h c rising event)
       ∙ grown f fieldKinds rising mark (c .values) event v small (s .clauses) (begun at c) (record { held-8 = r .held-8; grows-8 = r .held-8 })
       ∙ held-first fieldKinds (getD (c .held) v false) (firstBind (s .clauses) v)
 
@@ -157,13 +157,13 @@ module _ (fields states : ℕ) (f : List ℕ) (at : ℕ) (s : Step) (h : StepAt 
   lists-judged v small =
       let j = judged f fieldKinds fresh rising mark event v small (s .clauses) (kept (c .tallies)) refl refl in
       let t = getD-replicate 4 v true false small in
-      rw (gained-encode fields states f at s h (c .tallies) fresh rising event) (
+      rw (gained-encode fields f at s h (c .tallies) fresh rising event) (
         j .all-rise ∙ ap (λ b. b && gathersRising fieldKinds (s .clauses) v) t,
         j .none-in ∙ ap (λ b. b && not (gathers (s .clauses) v)) t,
       )
 
   -- the guard behind the walk is falling exactly where the step's guard is
-  falls-encode : (g : Option Expr) (p : ℕ) → drop p f ≡ guardBytes g ++ h .after → All (Exists fields states) (guardCommands g) → GuardFits g
+  falls-encode : (g : Option Expr) (p : ℕ) → drop p f ≡ guardBytes g ++ h .after → All (Exists fields) (guardCommands g) → GuardFits g
       → fallsBehind f p (c .held) ((walked f at c rising event) .grows) (gained f at (c .tallies) fresh rising event)
       ≡ guardFalls fieldKinds (configOf ls c) (s .clauses) g
   unfolding fallsAt guardCommands
@@ -177,10 +177,10 @@ module _ (fields states : ℕ) (f : List ℕ) (at : ℕ) (s : Step) (h : StepAt 
       let l = gained f at (c .tallies) fresh rising event in
       let ks = s .clauses in
       let same : (v : ℕ) → v < 4 → getD (l .unchanged) v false ≡ not (gathers ks v) = λ v i. lists-judged v i .1 in
-      let up = marked-rises fieldKinds (configOf ls c) ks states (growing (w .grows) l) same walk-grows (λ v i. lists-judged v i .0) in
-      let down = marked-falls fieldKinds (configOf ls c) ks states (falling (c .held) l) same refl same in
+      let up = marked-rises fieldKinds (configOf ls c) ks (growing (w .grows) l) same walk-grows (λ v i. lists-judged v i .0) in
+      let down = marked-falls fieldKinds (configOf ls c) ks (falling (c .held) l) same refl same in
       let j =
-      judge-encode fieldKinds (configOf ls c) ks (LeafExists states) (leafMarked (growing (w .grows) l)) (leafMarked (falling (c .held) l)) up down g 8 (x .0)
+      judge-encode fieldKinds (configOf ls c) ks LeafExists (leafMarked (growing (w .grows) l)) (leafMarked (falling (c .held) l)) up down g 8 (x .0)
       (y .1) in
       rw (b, d, j .is-falling (h .after))
 
@@ -188,9 +188,9 @@ module _ (fields states : ℕ) (f : List ℕ) (at : ℕ) (s : Step) (h : StepAt 
   pub expired-encode : lapsed f at c fresh rising event ≡ expired fieldKinds (configOf ls c) s event
   unfolding lapsed expired leave begun
   expired-encode =
-      let a = walked-along fields states f at s h fieldKinds rising mark ls c event in
-      let g = guard-left fields states f at s h ls c fresh rising event r k (a .agrees) in
-      let x = guard-exists fields states (s .clauses) (s .guard) (parts-exist fields states f at s h) in
-      let p = falls-encode (s .guard) ((walked f at c rising event) .at) (walked-ends fields states f at s h c rising event) x (h .fits .guard) in
-      let i = lt-leb (length f) at (inside fields states f at s h) in
+      let a = walked-along fields f at s h fieldKinds rising mark ls c event in
+      let g = guard-left fields f at s h ls c fresh rising event r k (a .agrees) in
+      let x = guard-exists fields (s .clauses) (s .guard) (parts-exist fields f at s h) in
+      let p = falls-encode (s .guard) ((walked f at c rising event) .at) (walked-ends fields f at s h c rising event) x (h .fits .guard) in
+      let i = lt-leb (length f) at (inside fields f at s h) in
       rw (i, a .overdue, p, g)

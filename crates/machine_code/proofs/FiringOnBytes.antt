@@ -81,11 +81,11 @@ clause-bytes [] (some g) = append-nil (0x15 ∷ encodeExpr g)
 clause-bytes (k ∷ ks) g = rw (clause-bytes ks g, append-assoc (encodeClause k) (flatMap encodeClause ks) (guardBytes g))
 
 -- The bytes at an offset are those of a correct step, and behind them stands neither a clause's command nor a GUARD: "10 STATE, 11 STEP, 00 END".
-pub record StepAt (fields states : ℕ) (f : List ℕ) (at : ℕ) (s : Step) : Type 0 where
+pub record StepAt (fields : ℕ) (f : List ℕ) (at : ℕ) (s : Step) : Type 0 where
   pub after : List ℕ
   pub bytes : drop at f ≡ stepBytes s ++ after
   pub ends : getD after 0 0 < 0x12
-  pub exist : All (Exists fields states) (stepCommands s)
+  pub exist : All (Exists fields) (stepCommands s)
   pub fits : StepFits s
 
 -- The configuration is one that a run reaches: "1 to 16 states", and no counter is full.
@@ -120,17 +120,17 @@ raised-one c r =
     let e : min (getD (c .counters) (c .state) 0 + 1) 4294967295 ≡ getD (c .counters) (c .state) 0 + 1 = omega (arith, r .below) in
     rw (e, add-one-set (c .counters) (c .state) (omega (arith, r .counters-16, r .declared)))
 
-pub clauses-exist : (m n : ℕ) (ks : List Clause) (g : Option Expr) → All (Exists m n) (map CLAUSE ks ++ guardCommands g)
-    → All (λ (k : Clause). Exists m n (CLAUSE k)) ks
-clauses-exist m n [] g h = tt
-clauses-exist m n (k ∷ ks) g h = (h .0, clauses-exist m n ks g (h .1))
+pub clauses-exist : (m : ℕ) (ks : List Clause) (g : Option Expr) → All (Exists m) (map CLAUSE ks ++ guardCommands g)
+    → All (λ (k : Clause). Exists m (CLAUSE k)) ks
+clauses-exist m [] g h = tt
+clauses-exist m (k ∷ ks) g h = (h .0, clauses-exist m ks g (h .1))
 
-pub guard-exists : (m n : ℕ) (ks : List Clause) (g : Option Expr) → All (Exists m n) (map CLAUSE ks ++ guardCommands g) → All (Exists m n) (guardCommands g)
-guard-exists m n [] g h = h
-guard-exists m n (k ∷ ks) g h = guard-exists m n ks g (h .1)
+pub guard-exists : (m : ℕ) (ks : List Clause) (g : Option Expr) → All (Exists m) (map CLAUSE ks ++ guardCommands g) → All (Exists m) (guardCommands g)
+guard-exists m [] g h = h
+guard-exists m (k ∷ ks) g h = guard-exists m ks g (h .1)
 
 -- what the bytes of a step say of its parts
-module _ (fields states : ℕ) (f : List ℕ) (at : ℕ) (s : Step) (h : StepAt fields states f at s) where
+module _ (fields : ℕ) (f : List ℕ) (at : ℕ) (s : Step) (h : StepAt fields f at s) where
   pub inside : at < length f
   unfolding stepCommands encodeCommand flatMap
   inside = byte-inside f at 0x11 (sym (first-byte f _ at (h .bytes))) (omega arith)
@@ -157,7 +157,7 @@ module _ (fields states : ℕ) (f : List ℕ) (at : ℕ) (s : Step) (h : StepAt 
       let e = ap length behind-step in
       omega (arith, clauses-length (s .clauses), length-drop (at + 2) f, length-append (flatMap encodeClause (s .clauses)) (guardBytes (s .guard) ++ h .after))
 
-  pub parts-exist : All (Exists fields states) (map CLAUSE (s .clauses) ++ guardCommands (s .guard))
+  pub parts-exist : All (Exists fields) (map CLAUSE (s .clauses) ++ guardCommands (s .guard))
   unfolding stepCommands
   parts-exist = h .exist .1
 
@@ -166,8 +166,8 @@ module _ (fields states : ℕ) (f : List ℕ) (at : ℕ) (s : Step) (h : StepAt 
       → walked f at c rising event ≡ walkOf f (c .values) rising event (begun at c) (s .clauses)
   unfolding walked begun
   walked-encode c rising event =
-      walk-encode f (c .values) rising event fields states (suc (length f)) (begun at c) (s .clauses) (guardBytes (s .guard) ++ h .after) behind-step
-      (clauses-end (s .guard)) (clauses-exist fields states (s .clauses) (s .guard) parts-exist) clauses-fit
+      walk-encode f (c .values) rising event fields (suc (length f)) (begun at c) (s .clauses) (guardBytes (s .guard) ++ h .after) behind-step
+      (clauses-end (s .guard)) (clauses-exist fields (s .clauses) (s .guard) parts-exist) clauses-fit
 
   -- and it ends where the guard begins
   pub walked-ends : (c : Configuration) (rising : List Bool) (event : List ℕ)
@@ -189,12 +189,12 @@ module _ (fields states : ℕ) (f : List ℕ) (at : ℕ) (s : Step) (h : StepAt 
       → gained f at ts fresh rising event ≡ gainAll f fresh rising event (kept ts) (s .clauses)
   unfolding gained
   gained-encode ts fresh rising event =
-      gain-encode f fresh rising event fields states (suc (length f)) (at + 2) (kept ts) (s .clauses) (guardBytes (s .guard) ++ h .after) behind-step
-      (clauses-end (s .guard)) (clauses-exist fields states (s .clauses) (s .guard) parts-exist) clauses-fit
+      gain-encode f fresh rising event fields (suc (length f)) (at + 2) (kept ts) (s .clauses) (guardBytes (s .guard) ++ h .after) behind-step
+      (clauses-end (s .guard)) (clauses-exist fields (s .clauses) (s .guard) parts-exist) clauses-fit
 
   -- the guard that begins at an offset has the value of the step's guard, in any configuration
   pub guard-encode : (g : Option Expr) (p : ℕ) (d : Config) → drop p f ≡ guardBytes g ++ h .after → length (d .lists) ≡ 4
-      → All (Exists fields states) (guardCommands g) → GuardFits g
+      → All (Exists fields) (guardCommands g) → GuardFits g
       → guardAt (leafValue (d .values) (d .counters) (tallies (d .lists))) f p ≡ guardHolds d g
   unfolding guardAt guardCommands
   guard-encode none p d e n x y =
@@ -203,7 +203,7 @@ module _ (fields states : ℕ) (f : List ℕ) (at : ℕ) (s : Step) (h : StepAt 
   guard-encode (some g) p c e n x y =
       let b : getD f p 0 ≡ 0x15 = first-byte f _ p e in
       let d : drop (p + 1) f ≡ encodeExpr g ++ h .after = drop-more f (0x15 ∷ []) (encodeExpr g ++ h .after) p e in
-      let v = evaluate-encode states c n g 8 (x .0) (y .1) (h .after) in
+      let v = evaluate-encode c n g 8 (x .0) (y .1) (h .after) in
       rw (b, d, v)
 
   -- the walk over the step's bytes binds, passes and is due as the definition says
@@ -220,9 +220,9 @@ module _ (fields states : ℕ) (f : List ℕ) (at : ℕ) (s : Step) (h : StepAt 
       → (gained f at (c .tallies) fresh rising event) .tallies ≡ tallies (gatherAll ls event (s .clauses))
   unfolding kept
   gained-tallies ls c fresh rising event k =
-      let x = clauses-exist fields states (s .clauses) (s .guard) parts-exist in
+      let x = clauses-exist fields (s .clauses) (s .guard) parts-exist in
       rw (gained-encode (c .tallies) fresh rising event, gain-tallies f fresh rising event (s .clauses) (kept (c .tallies)), k .tallied)
-      (carried fields states event ls fresh (k .few) (k .new) (k .short) (s .clauses) (k .four) (h .fits .once) x)
+      (carried fields event ls fresh (k .few) (k .new) (k .short) (s .clauses) (k .four) (h .fits .once) x)
 
   -- the guard behind the walk, with what it has bound, what is gathered and the counters raised, is the step's guard in the configuration that it leaves
   pub guard-left : (ls : List (List ℕ)) (c : Configuration) (fresh rising : List Bool) (event : List ℕ) → Ready c → Carries fields ls c event fresh
@@ -231,7 +231,7 @@ module _ (fields states : ℕ) (f : List ℕ) (at : ℕ) (s : Step) (h : StepAt 
       ≡ guardHolds (leave (configOf ls c) s event) (s .guard)
   unfolding leave
   guard-left ls c fresh rising event r k a =
-      let x = guard-exists fields states (s .clauses) (s .guard) parts-exist in
+      let x = guard-exists fields (s .clauses) (s .guard) parts-exist in
       let n : length (gatherAll ls event (s .clauses)) ≡ 4 = length-gather-all ls event (s .clauses) ∙ k .four in
       let w = walked f at c rising event in
       let g = guard-encode (s .guard) (w .at) (leave (configOf ls c) s event) (walked-ends c rising event) n x (h .fits .guard) in
@@ -250,21 +250,21 @@ fired-passes : (f : List ℕ) (at : ℕ) (c : Configuration) (fresh : List Bool)
 unfolding fired
 fired-passes f at c fresh event h q = and-both _ _ (rw (lt-leb (length f) at h) at q) .0
 
-module _ (fields states : ℕ) (f : List ℕ) (at : ℕ) (ls : List (List ℕ)) (c : Configuration) (s : Step) (fresh : List Bool) (event : List ℕ)
-    (h : StepAt fields states f at s) (r : Ready c) (k : Carries fields ls c event fresh) where
+module _ (fields : ℕ) (f : List ℕ) (at : ℕ) (ls : List (List ℕ)) (c : Configuration) (s : Step) (fresh : List Bool) (event : List ℕ)
+    (h : StepAt fields f at s) (r : Ready c) (k : Carries fields ls c event fresh) where
   pub fire-encode : FiresAs f at ls c s fresh event
   unfolding fired leave begun
   fire-encode =
-      let a = walked-along fields states f at s h [] (replicate 8 false) (λ g. replicate-at 8 g false) ls c event in
-      let g = guard-left fields states f at s h ls c fresh (replicate 8 false) event r k (a .agrees) in
-      let i = lt-leb (length f) at (inside fields states f at s h) in
-      let t = target-byte fields states f at s h in
+      let a = walked-along fields f at s h [] (replicate 8 false) (λ g. replicate-at 8 g false) ls c event in
+      let g = guard-left fields f at s h ls c fresh (replicate 8 false) event r k (a .agrees) in
+      let i = lt-leb (length f) at (inside fields f at s h) in
+      let t = target-byte fields f at s h in
       let p = fires-walk (configOf ls c) s event (record { held-8 = r .held-8; values-8 = r .values-8 }) in
-      let l = fired-passes f at c fresh event (inside fields states f at s h) in
+      let l = fired-passes f at c fresh event (inside fields f at s h) in
       record {
         fires-as = rw (i, g, a .passing, p);
         leaves-as = λ q. rw (i, l q, t, a .agrees .held, a .agrees .values, raised-one c r);
-        tallied = λ q. rw (i, l q) (gained-tallies fields states f at s h ls c fresh (replicate 8 false) event k);
+        tallied = λ q. rw (i, l q) (gained-tallies fields f at s h ls c fresh (replicate 8 false) event k);
       }
 
   -- The same as an answer: what the step leaves, if it fires.

@@ -165,13 +165,13 @@ module _ (f : List ℕ) (fresh rising : List Bool) (event : List ℕ) where
   gainAll g [] = g
   gainAll g (k ∷ ks) = gainAll (gainOf g k) ks
 
-  gain-clause : (m n p : ℕ) (g : Gained) (k : Clause) (l : List ℕ) → drop p f ≡ encodeClause k ++ l → Exists m n (CLAUSE k)
+  gain-clause : (m p : ℕ) (g : Gained) (k : Clause) (l : List ℕ) → drop p f ≡ encodeClause k ++ l → Exists m (CLAUSE k)
       → gainAt f fresh rising event p g ≡ gainOf g k
   unfolding encodeClause
-  gain-clause m n p g (TEST k o y) l h v = sym (gain-other f fresh rising event p g 0x12 (sym (first-byte f _ p h)) (λ e. omega arith))
-  gain-clause m n p g (TESTV k o u) l h v = sym (gain-other f fresh rising event p g 0x13 (sym (first-byte f _ p h)) (λ e. omega arith))
-  gain-clause m n p g (BIND k u) l h v = sym (gain-other f fresh rising event p g 0x14 (sym (first-byte f _ p h)) (λ e. omega arith))
-  gain-clause m n p g (GATHER k u) l h v =
+  gain-clause m p g (TEST k o y) l h v = sym (gain-other f fresh rising event p g 0x12 (sym (first-byte f _ p h)) (λ e. omega arith))
+  gain-clause m p g (TESTV k o u) l h v = sym (gain-other f fresh rising event p g 0x13 (sym (first-byte f _ p h)) (λ e. omega arith))
+  gain-clause m p g (BIND k u) l h v = sym (gain-other f fresh rising event p g 0x14 (sym (first-byte f _ p h)) (λ e. omega arith))
+  gain-clause m p g (GATHER k u) l h v =
       let x = getD event k 0 in
       let r = getD rising k false in
       sym
@@ -179,21 +179,21 @@ module _ (f : List ℕ) (fresh rising : List Bool) (event : List ℕ) where
       (sym (byte-from f _ p 2 h)) refl refl (gather-in g k (listByte u) x u r fresh (omega arith) (v .1)))
 
   -- what a step's clauses add, up to a byte that is no clause's command
-  pub gain-encode : (m n fuel p : ℕ) (g : Gained) (ks : List Clause) (l : List ℕ) → drop p f ≡ flatMap encodeClause ks ++ l
+  pub gain-encode : (m fuel p : ℕ) (g : Gained) (ks : List Clause) (l : List ℕ) → drop p f ≡ flatMap encodeClause ks ++ l
       → isClause (getD l 0 0) ≡ false
-      → All (λ k. Exists m n (CLAUSE k)) ks → length ks ≤ fuel → gainFrom fuel f fresh rising event p g ≡ gainAll g ks
+      → All (λ k. Exists m (CLAUSE k)) ks → length ks ≤ fuel → gainFrom fuel f fresh rising event p g ≡ gainAll g ks
   unfolding gainFrom flatMap
-  gain-encode m n zero p g [] l h stop v k = refl
-  gain-encode m n (suc fuel) p g [] l h stop v k = rw (first-byte f l p h, stop)
-  gain-encode m n zero p g (x ∷ ks) l h stop v k = absurd (omega arith)
-  gain-encode m n (suc fuel) p g (x ∷ ks) l h stop v k =
+  gain-encode m zero p g [] l h stop v k = refl
+  gain-encode m (suc fuel) p g [] l h stop v k = rw (first-byte f l p h, stop)
+  gain-encode m zero p g (x ∷ ks) l h stop v k = absurd (omega arith)
+  gain-encode m (suc fuel) p g (x ∷ ks) l h stop v k =
       let h′ : drop p f ≡ encodeClause x ++ (flatMap encodeClause ks ++ l) = h ∙ append-assoc (encodeClause x) (flatMap encodeClause ks) l in
       let b = first-byte f _ p h′ in
       let t : isClause (getD f p 0) ≡ true = ap isClause b ∙ is-clause x (flatMap encodeClause ks ++ l) in
       let w : widthOf (getD f p 0) ≡ length (encodeClause x) = ap widthOf b ∙ width-encode x (flatMap encodeClause ks ++ l) in
       let d : drop (p + length (encodeClause x)) f ≡ flatMap encodeClause ks ++ l = drop-more f (encodeClause x) (flatMap encodeClause ks ++ l) p h′ in
-      rw (t, w, gain-clause m n p g x (flatMap encodeClause ks ++ l) h′ (v .0))
-      (gain-encode m n fuel (p + length (encodeClause x)) (gainOf g x) ks l d stop (v .1) (omega arith))
+      rw (t, w, gain-clause m p g x (flatMap encodeClause ks ++ l) h′ (v .0))
+      (gain-encode m fuel (p + length (encodeClause x)) (gainOf g x) ks l d stop (v .1) (omega arith))
 
   -- the tallies
   pub gain-tallies : (ks : List Clause) (g : Gained) → (gainAll g ks) .tallies ≡ carryAll fresh event (g .tallies) ks

@@ -1,16 +1,14 @@
 -- The lookup by state and number: on a correct formula's bytes and its table it finds where each step stands.
 use Prim.Native.Nat.{ℕ, _<_}
 use mathlib.Core.Path.{_≡_, refl, ap, sym, _∙_}
-use mathlib.Core.List.{List, [], _∷_, map}
+use mathlib.Core.List.{List, [], _∷_}
 use mathlib.Core.Option.{Option, none, some}
 use native.Mathlib.Omega.{arith}
 use native.Mathlib.Decide.{decLt}
-use lib.ListN.{length, getD}
-use Rattle.base.specs.Lists.{All}
-use Rattle.base.proofs.Lists.{All-append}
-use Rattle.formula.specs.Formula.{Clause, Step, Formula}
-use Rattle.formula.specs.Encode.{CLAUSE, encode, stepCommands, guardCommands}
-use Rattle.formula.specs.Correct.{Exists, Correct}
+use lib.ListN.{getD}
+use Rattle.formula.specs.Formula.{Step, Formula}
+use Rattle.formula.specs.Encode.{encode}
+use Rattle.formula.specs.Correct.{Correct}
 use Rattle.formula.specs.Lookup.{stepAt, stepPlace, placeIf, stepTable}
 use Rattle.formula.proofs.Places.{Boundary, boundary-below, step-bytes, step-stands, place-positive, table-place, table-length}
 use Rattle.formula.proofs.Steps.{right-step}
@@ -23,27 +21,17 @@ boundary-first : (bs : List ℕ) → Boundary bs → getD bs 0 0 < 0x12
 boundary-first [] h = absurd h
 boundary-first (b ∷ bs) h = boundary-below b bs h
 
-clauses-exist : (m n : ℕ) (ks : List Clause) → All (λ (c : Clause). Exists m n (CLAUSE c)) ks → All (Exists m n) (map CLAUSE ks)
-clauses-exist m n [] h = tt
-clauses-exist m n (k ∷ ks) h = (h .0, clauses-exist m n ks (h .1))
-
 module _ (fields : ℕ) (fm : Formula) (right : Correct fields fm) where
   -- the bytes at a step's place are those of a correct step
-  step-at : (s k : ℕ) (t : Step) → stepAt fm s k ≡ some t → StepAt fields (length (fm .states)) (encode fm) (stepPlace fm s k) t
-  unfolding stepCommands
+  step-at : (s k : ℕ) (t : Step) → stepAt fm s k ≡ some t → StepAt fields (encode fm) (stepPlace fm s k) t
   step-at s k t e =
       let p = step-stands fm s k t e in
       let r = right-step fields fm s k t right e in
-      let m = fields in
-      let n = length (fm .states) in
       record {
         after = p .behind;
         bytes = rw (step-bytes t) (p .bytes);
         ends = boundary-first (p .behind) (p .boundary);
-        exist = (
-          r .target,
-          All-append (Exists m n) (map CLAUSE (t .clauses)) (guardCommands (t .guard)) (clauses-exist m n (t .clauses) (r .clauses)) (r .guard),
-        );
+        exist = r .exist;
         fits = r .fits;
       }
 
@@ -58,13 +46,13 @@ module _ (fields : ℕ) (fm : Formula) (right : Correct fields fm) where
   offset-place s k (some t) e =
       let r = right-step fields fm s k t right e in
       sym (offset-in (stepTable fm) s k (r .number))
-      ∙ table-place fm s k (omega (arith, r .state, right .states)) (r .number)
+      ∙ table-place fm s k (omega (arith, r .state, right .formed .states)) (r .number)
       ∙ ap (λ o. placeIf o (stepPlace fm s k)) e
 
   -- The table is right for every step of the formula.
-  pub charted : Charted fields (length (fm .states)) fm (encode fm) (stepTable fm)
+  pub charted : Charted fields fm (encode fm) (stepTable fm)
   charted = record { stands = λ s k h. go s k (stepAt fm s k) refl }
     where
-      go : (s k : ℕ) (o : Option Step) → stepAt fm s k ≡ o → StepThere fields (length (fm .states)) (encode fm) (offsetOf (stepTable fm) s k) o
+      go : (s k : ℕ) (o : Option Step) → stepAt fm s k ≡ o → StepThere fields (encode fm) (offsetOf (stepTable fm) s k) o
       go s k none e = offset-place s k none e
       go s k (some t) e = rw (offset-place s k (some t) e) (omega (arith, place-positive fm s k), step-at s k t e)

@@ -24,13 +24,13 @@ use Rattle.machine_code.proofs.FiringOnBytes.{StepAt, Ready, Carries, i
 use Rattle.machine_code.proofs.ExpiryOnBytes.{expired-encode}
 
 -- an offset of the table is right: 0 where there is no such step, else that of the step's bytes
-abbrev pub StepThere : ℕ → ℕ → List ℕ → ℕ → Option Step → Type 0
-StepThere fields states f at none = at ≡ 0
-StepThere fields states f at (some s) = (0 < at) × StepAt fields states f at s
+abbrev pub StepThere : ℕ → List ℕ → ℕ → Option Step → Type 0
+StepThere fields f at none = at ≡ 0
+StepThere fields f at (some s) = (0 < at) × StepAt fields f at s
 
 -- The table is right for every step of the formula.
-pub record Charted (fields states : ℕ) (formula : Formula) (f table : List ℕ) : Type 0 where
-  pub stands : (s k : ℕ) → k < 8 → StepThere fields states f (offsetOf table s k) (stepAt formula s k)
+pub record Charted (fields : ℕ) (formula : Formula) (f table : List ℕ) : Type 0 where
+  pub stands : (s k : ℕ) → k < 8 → StepThere fields f (offsetOf table s k) (stepAt formula s k)
 
 -- a step fires if it leaves something
 abbrev pub isFired : Option Config → Bool
@@ -41,31 +41,31 @@ answered : (b : Bool) (d : Config) → isFired (cond b (some d) none) ≡ b
 answered true d = refl
 answered false d = refl
 
-pub step-there : (fields states : ℕ) (f : List ℕ) (at : ℕ) (s : Step) → 0 < at → StepAt fields states f at s → isStep f at ≡ true
+pub step-there : (fields : ℕ) (f : List ℕ) (at : ℕ) (s : Step) → 0 < at → StepAt fields f at s → isStep f at ≡ true
 unfolding isStep
-step-there fields states f at s h k = rw (ne-eqb at 0 (λ e. omega arith), lt-ltb at (length f) (inside fields states f at s k))
+step-there fields f at s h k = rw (ne-eqb at 0 (λ e. omega arith), lt-ltb at (length f) (inside fields f at s k))
 
-module _ (fields states : ℕ) (f : List ℕ) (ls : List (List ℕ)) (c : Configuration) (r : Ready c) (fresh : List Bool) where
+module _ (fields : ℕ) (f : List ℕ) (ls : List (List ℕ)) (c : Configuration) (r : Ready c) (fresh : List Bool) where
   -- what is at an offset fires as the step does
-  fires-by : (o : Option Step) (at : ℕ) (event : List ℕ) → Carries fields ls c event fresh → StepThere fields states f at o
+  fires-by : (o : Option Step) (at : ℕ) (event : List ℕ) → Carries fields ls c event fresh → StepThere fields f at o
       → (isStep f at && (fired f at c fresh event) .fires) ≡ isFired (fireBy o (configOf ls c) event)
   unfolding isStep
   fires-by none at event k h = rw h
   fires-by (some s) at event k h =
-      rw (step-there fields states f at s (h .0) (h .1), fire-answer fields states f at ls c s fresh event (h .1) r k)
+      rw (step-there fields f at s (h .0) (h .1), fire-answer fields f at ls c s fresh event (h .1) r k)
       (sym (answered ((fired f at c fresh event) .fires) (configOf (gatherAll ls event (s .clauses)) ((fired f at c fresh event) .config))))
 
   -- and is expired as the step is
   expires-by : (log : Log) (rising : List Bool) → ((g : ℕ) → getD rising g false ≡ rises (log .fields) g)
-      → (o : Option Step) (at : ℕ) (event : List ℕ) → Carries fields ls c event fresh → StepThere fields states f at o
+      → (o : Option Step) (at : ℕ) (event : List ℕ) → Carries fields ls c event fresh → StepThere fields f at o
       → (not (isStep f at) || lapsed f at c fresh rising event) ≡ expiredBy (log .fields) o (configOf ls c) event
   unfolding isStep
   expires-by log rising mark none at event k h = rw h
   expires-by log rising mark (some s) at event k h =
-      rw (step-there fields states f at s (h .0) (h .1)) (expired-encode fields states f at s (h .1) (log .fields) rising mark ls c r fresh event k)
+      rw (step-there fields f at s (h .0) (h .1)) (expired-encode fields f at s (h .1) (log .fields) rising mark ls c r fresh event k)
 
 -- the machine of a log and a formula
-module _ (log : Log) (formula : Formula) (fields states : ℕ) (f table : List ℕ) (chart : Charted fields states formula f table)
+module _ (log : Log) (formula : Formula) (fields : ℕ) (f table : List ℕ) (chart : Charted fields formula f table)
     (ls : List (List ℕ)) (c : Configuration) (r : Ready c) (n : ℕ) (fresh : List Bool) where
   -- on an event whose fields the code holds
   module _ (event : List ℕ) (lists : Carries fields ls c event fresh) (held : (g : ℕ) → field event g ≡ field ((eventAt log n) .values) g) where
@@ -77,7 +77,7 @@ module _ (log : Log) (formula : Formula) (fields states : ℕ) (f table : List �
     pub fires-machine : (k : ℕ) → k < 8 → firesAt f table c fresh event k ≡ isFired (fireAt log formula (configOf ls c) n k)
     unfolding firesAt fireAt
     fires-machine k h =
-        fires-by fields states f ls c r fresh (stepAt formula (c .state) k) (offsetOf table (c .state) k) event lists (chart .stands (c .state) k h)
+        fires-by fields f ls c r fresh (stepAt formula (c .state) k) (offsetOf table (c .state) k) event lists (chart .stands (c .state) k h)
         ∙ ap isFired (same-fire (stepAt formula (c .state) k))
 
   -- by the latest values of the fields, where the code holds them
@@ -91,7 +91,7 @@ module _ (log : Log) (formula : Formula) (fields states : ℕ) (f table : List �
     pub expires-machine : (k : ℕ) → k < 8 → expiresAt f table c fresh rising x k ≡ expiredAt log formula (configOf ls c) k n
     unfolding expiresAt expiredAt
     expires-machine k h =
-        expires-by fields states f ls c r fresh log rising mark (stepAt formula (c .state) k) (offsetOf table (c .state) k) x lists
+        expires-by fields f ls c r fresh log rising mark (stepAt formula (c .state) k) (offsetOf table (c .state) k) x lists
         (chart .stands (c .state) k h)
         ∙ same-expired (stepAt formula (c .state) k)
 
@@ -129,13 +129,13 @@ unfolding lowestOf
 lowest-means p = lowest-from p 0 8 (omega arith) (λ j l. absurd (omega arith))
 
 -- "the lowest numbered step that fires": the code's answer is the machine's lowest step that fires, 8 where none does.
-pub lowest-machine : (log : Log) (formula : Formula) (fields states : ℕ) (f table : List ℕ) → Charted fields states formula f table
+pub lowest-machine : (log : Log) (formula : Formula) (fields : ℕ) (f table : List ℕ) → Charted fields formula f table
     → (ls : List (List ℕ)) (c : Configuration) → Ready c → (n : ℕ) (fresh : List Bool) (event : List ℕ) → Carries fields ls c event fresh
     → ((g : ℕ) → field event g ≡ field ((eventAt log n) .values) g)
     → Lowest (λ k. isFired (fireAt log formula (configOf ls c) n k)) (lowestOf (firesAt f table c fresh event))
-lowest-machine log formula fields states f table chart ls c r n fresh event lists held =
+lowest-machine log formula fields f table chart ls c r n fresh event lists held =
     let l = lowest-means (firesAt f table c fresh event) in
-    let e = fires-machine log formula fields states f table chart ls c r n fresh event lists held in
+    let e = fires-machine log formula fields f table chart ls c r n fresh event lists held in
     record {
       most = l .most;
       before = λ j i. sym (e j (omega (arith, l .most))) ∙ l .before j i;

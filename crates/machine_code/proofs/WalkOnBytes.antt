@@ -68,25 +68,25 @@ module _ (f prior : List ℕ) (rising : List Bool) (event : List ℕ) where
   walkOf w [] = w
   walkOf w (k ∷ ks) = walkOf (clauseOf w k) ks
 
-  clause-encode : (m n : ℕ) (w : Walked) (k : Clause) (l : List ℕ) → drop (w .at) f ≡ encodeClause k ++ l → Exists m n (CLAUSE k)
+  clause-encode : (m : ℕ) (w : Walked) (k : Clause) (l : List ℕ) → drop (w .at) f ≡ encodeClause k ++ l → Exists m (CLAUSE k)
       → clauseAt f prior rising event w ≡ clauseOf w k
   unfolding encodeClause
-  clause-encode m n w (TEST g o y) l h v =
+  clause-encode m w (TEST g o y) l h v =
       sym
       (clause-test f prior rising event w g (getD event g 0) (operatorByte o) 0x12 (getD rising g false)
       (sym (byte-from f _ (w .at) 1 h)) refl refl (sym (byte-from f _ (w .at) 2 h)) (sym (first-byte f _ (w .at) h))
       y _ refl (sym (value-from f _ (w .at) h ∙ value-of-bytes (0x12 ∷ g ∷ operatorByte o ∷ []) y l (v .1))) refl)
-  clause-encode m n w (TESTV g o u) l h v =
+  clause-encode m w (TESTV g o u) l h v =
       sym
       (clause-testv f prior rising event w g (getD event g 0) (operatorByte o) 0x13 (getD rising g false)
       (sym (byte-from f _ (w .at) 1 h)) refl refl (sym (byte-from f _ (w .at) 2 h)) (sym (first-byte f _ (w .at) h))
       u _ _ refl (sym (byte-from f _ (w .at) 3 h)) refl refl)
-  clause-encode m n w (BIND g u) l h v =
+  clause-encode m w (BIND g u) l h v =
       sym
       (clause-bind f prior rising event w g (getD event g 0) u 0x14 (getD rising g false)
       (sym (byte-from f _ (w .at) 1 h)) refl refl (sym (byte-from f _ (w .at) 2 h)) (sym (first-byte f _ (w .at) h))
       _ (λ e. omega arith) (λ e. omega arith) (λ e. omega arith) refl)
-  clause-encode m n w (GATHER g u) l h v =
+  clause-encode m w (GATHER g u) l h v =
       sym
       (clause-note f prior rising event w g (getD event g 0) (listByte u) 0x17 (getD rising g false)
       (sym (byte-from f _ (w .at) 1 h)) refl refl (sym (byte-from f _ (w .at) 2 h)) (sym (first-byte f _ (w .at) h))
@@ -100,19 +100,19 @@ module _ (f prior : List ℕ) (rising : List Bool) (event : List ℕ) where
   clause-at w (GATHER g u) = refl
 
   -- the walk over a step's clauses, up to a byte that is no clause's command
-  pub walk-encode : (m n : ℕ) (fuel : ℕ) (w : Walked) (ks : List Clause) (l : List ℕ) → drop (w .at) f ≡ flatMap encodeClause ks ++ l
+  pub walk-encode : (m fuel : ℕ) (w : Walked) (ks : List Clause) (l : List ℕ) → drop (w .at) f ≡ flatMap encodeClause ks ++ l
       → isClause (getD l 0 0) ≡ false
-      → All (λ k. Exists m n (CLAUSE k)) ks → length ks ≤ fuel → walkFrom fuel f prior rising event w ≡ walkOf w ks
+      → All (λ k. Exists m (CLAUSE k)) ks → length ks ≤ fuel → walkFrom fuel f prior rising event w ≡ walkOf w ks
   unfolding walkFrom flatMap
-  walk-encode m n zero w [] l h stop v k = refl
-  walk-encode m n (suc fuel) w [] l h stop v k = rw (first-byte f l (w .at) h, stop)
-  walk-encode m n zero w (x ∷ ks) l h stop v k = absurd (omega arith)
-  walk-encode m n (suc fuel) w (x ∷ ks) l h stop v k =
+  walk-encode m zero w [] l h stop v k = refl
+  walk-encode m (suc fuel) w [] l h stop v k = rw (first-byte f l (w .at) h, stop)
+  walk-encode m zero w (x ∷ ks) l h stop v k = absurd (omega arith)
+  walk-encode m (suc fuel) w (x ∷ ks) l h stop v k =
       let h′ : drop (w .at) f ≡ encodeClause x ++ (flatMap encodeClause ks ++ l) = h ∙ append-assoc (encodeClause x) (flatMap encodeClause ks) l in
       let t : isClause (getD f (w .at) 0) ≡ true = ap isClause (first-byte f _ (w .at) h′) ∙ is-clause x (flatMap encodeClause ks ++ l) in
       let d : drop ((clauseOf w x) .at) f ≡ flatMap encodeClause ks ++ l =
       ap (λ i. drop i f) (clause-at w x) ∙ drop-more f (encodeClause x) (flatMap encodeClause ks ++ l) (w .at) h′ in
-      rw (t, clause-encode m n w x (flatMap encodeClause ks ++ l) h′ (v .0)) (walk-encode m n fuel (clauseOf w x) ks l d stop (v .1) (omega arith))
+      rw (t, clause-encode m w x (flatMap encodeClause ks ++ l) h′ (v .0)) (walk-encode m fuel (clauseOf w x) ks l d stop (v .1) (omega arith))
 
   -- how far it goes
   pub walk-at : (w : Walked) (ks : List Clause) → (walkOf w ks) .at ≡ w .at + length (flatMap encodeClause ks)

@@ -106,7 +106,7 @@ module _ (g : Log) (fm : Formula) (f table : List ℕ) (rules : Rules) (s : Sett
   unfolding threads
   going-start slots i work h e =
       record {
-        kept = record { fit = rw e (fit-origin g fm (s .formula .nonempty), tt); short = rw e (omega arith, tt) };
+        kept = record { fit = rw e (fit-origin g fm (s .formula .formed .nonempty), tt); short = rw e (omega arith, tt) };
         leads = sym (threads-give g fm (s .log) (s .formula) slots i (omega arith))
             ∙ ap (λ ths. ahead (machine g fm) slots i ths 0) (waiting-origin g fm work e);
       }
@@ -127,7 +127,7 @@ module _ (g : Log) (fm : Formula) (f table : List ℕ) (rules : Rules) (s : Sett
     unfolding accepting
     named-is t fit =
         let e : kindIs isAccept (getElem? (fm .states) (t .config .state)) ≡ eqb (getD (rules .kinds) (t .config .state) 0) 2 =
-        rw (s .kinds-are) (accepts (fm .states) (t .config .state) (fit .valid .declared) (s .formula .states)) in
+        rw (s .kinds-are) (accepts (fm .states) (t .config .state) (fit .valid .declared) (s .formula .formed .states)) in
         ap (λ b. record {
           verdict = cond b Accept Reject;
           steps = length (trailOf t);

@@ -42,7 +42,7 @@ same-mark plain = refl
 same-mark rising = refl
 
 module _ (g : Log) (fm : Formula) (f table : List ℕ) (rules : Rules) (s : Setting g fm f table rules) where
-  pub charted : Charted (length (g .fields)) (length (fm .states)) fm f table
+  pub charted : Charted (length (g .fields)) fm f table
   charted = rw (s .bytes, s .table-is) (Lookup.charted (length (g .fields)) fm (s .formula))
 
   pub marks : (i : ℕ) → getD (rules .rises) i false ≡ rises (g .fields) i
@@ -87,10 +87,10 @@ module _ (g : Log) (fm : Formula) (f table : List ℕ) (rules : Rules) (s : Sett
   unfolding fireAt fire leave
   fires-some ready z r e = go (stepAt fm (t .config .state) k) (charted g fm f table rules s .stands (t .config .state) k h)
     where
-      left : (x : Step) → StepAt (length (g .fields)) (length (fm .states)) f (offsetOf table (t .config .state) k) x → (b : Bool) → answer .fires ≡ b
+      left : (x : Step) → StepAt (length (g .fields)) f (offsetOf table (t .config .state) k) x → (b : Bool) → answer .fires ≡ b
           → FiredBy (cond b (some (leave (conf g fm t) x (m .event .values))) none) t r
       left x p true q =
-          let w = fire-encode (length (g .fields)) (length (fm .states)) f (offsetOf table (t .config .state) k) (gathered g fm (trailOf t)) (t .config) x fresh
+          let w = fire-encode (length (g .fields)) f (offsetOf table (t .config .state) k) (gathered g fm (trailOf t)) (t .config) x fresh
           (m .event .values) p ready c in
           record {
             fires = ap (λ (y : Move). y .fires) e ∙ q;
@@ -101,11 +101,11 @@ module _ (g : Log) (fm : Formula) (f table : List ℕ) (rules : Rules) (s : Sett
           }
       left x p false q = ap (λ (y : Move). y .fires) e ∙ q
 
-      go : (o : Option Step) → StepThere (length (g .fields)) (length (fm .states)) f (offsetOf table (t .config .state) k) o
+      go : (o : Option Step) → StepThere (length (g .fields)) f (offsetOf table (t .config .state) k) o
           → FiredBy (fireBy o (conf g fm t) ((eventAt g (m .number)) .values)) t r
       go none p = absurd (z p)
       go (some x) p =
-          let w = fire-encode (length (g .fields)) (length (fm .states)) f (offsetOf table (t .config .state) k) (gathered g fm (trailOf t)) (t .config) x fresh
+          let w = fire-encode (length (g .fields)) f (offsetOf table (t .config .state) k) (gathered g fm (trailOf t)) (t .config) x fresh
           (m .event .values) (p .1) ready c in
           subst (λ (o : Option Config). FiredBy o t r)
           (fire-fields (m .event .values) ((eventAt g (m .number)) .values) (event-fields g fm f table rules s m l) (conf g fm t) x)

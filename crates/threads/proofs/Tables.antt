@@ -46,7 +46,7 @@ module _ (g : Log) (fm : Formula) {l places : List ℕ} (f table : List ℕ) (ru
   entry : (k : ℕ) → k < 8 → Firing f (m .event .values) (offsetOf (stepTable fm) (t .config .state) k) (offsetOf table (t .config .state) k)
   entry k h =
       rw (← offset-in (stepTable fm) (t .config .state) k h, ← offset-in table (t .config .state) k h)
-      (s .offsets .fires (t .config .state * 8 + k) (omega (arith, w .valid .declared, s .setting .formula .states)))
+      (s .offsets .fires (t .config .state * 8 + k) (omega (arith, w .valid .declared, s .setting .formula .formed .states)))
 
   entry-behind : (k : ℕ) → k < 8
       → Lasting f (rules .rises) (m .latest .values) (offsetOf (stepTable fm) (t .config .state) k) (offsetOf (drop 128 table) (t .config .state) k)
@@ -57,10 +57,10 @@ module _ (g : Log) (fm : Formula) {l places : List ℕ} (f table : List ℕ) (ru
         getD-drop 128 table (t .config .state * 8 + k)
             0,
       )
-      (s .offsets .lapses (t .config .state * 8 + k) (omega (arith, w .valid .declared, s .setting .formula .states)))
+      (s .offsets .lapses (t .config .state * 8 + k) (omega (arith, w .valid .declared, s .setting .formula .formed .states)))
 
   ready : Ready (t .config)
-  ready = ready-of g fm t w (s .setting .formula .states)
+  ready = ready-of g fm t w (s .setting .formula .formed .states)
 
   fires-same : (fresh : List Bool) (k : ℕ) → k < 8
       → firesAt f table (t .config) fresh (m .event .values) k ≡ firesAt f (stepTable fm) (t .config) fresh (m .event .values) k
@@ -90,7 +90,7 @@ module _ (g : Log) (fm : Formula) {l places : List ℕ} (f table : List ℕ) (ru
       → firesAt f table (t .config) fresh (m .event .values) k ≡ isFired (fireAt g fm (conf g fm t) (m .number) k)
   fires-here fresh new k h =
       fires-same fresh k h
-      ∙ fires-machine g fm (length (g .fields)) (length (fm .states)) f (stepTable fm) (charted g fm f (stepTable fm) rules (s .setting))
+      ∙ fires-machine g fm (length (g .fields)) f (stepTable fm) (charted g fm f (stepTable fm) rules (s .setting))
       (gathered g fm (trailOf t)) (t .config) ready (m .number) fresh (m .event .values) (carries g fm f table rules m s t w (m .event .values) fresh new)
       (event-fields g fm f (stepTable fm) rules (s .setting) m (s .loads)) k h
 
@@ -99,7 +99,7 @@ module _ (g : Log) (fm : Formula) {l places : List ℕ} (f table : List ℕ) (ru
       → Lowest (λ k. isFired (fireAt g fm (conf g fm t) (m .number) k)) (lowestOf (firesAt f table (t .config) fresh (m .event .values)))
   unfolding lowestOf
   lowest-here fresh new =
-      let low = lowest-machine g fm (length (g .fields)) (length (fm .states)) f (stepTable fm) (charted g fm f (stepTable fm) rules (s .setting))
+      let low = lowest-machine g fm (length (g .fields)) f (stepTable fm) (charted g fm f (stepTable fm) rules (s .setting))
       (gathered g fm (trailOf t)) (t .config) ready (m .number) fresh (m .event .values) (carries g fm f table rules m s t w (m .event .values) fresh new)
       (event-fields g fm f (stepTable fm) rules (s .setting) m (s .loads)) in
       subst (Lowest (λ k. isFired (fireAt g fm (conf g fm t) (m .number) k)))
@@ -115,7 +115,7 @@ module _ (g : Log) (fm : Formula) {l places : List ℕ} (f table : List ℕ) (ru
   hopeful-here fresh new =
       alive-same (expiresAt f (drop 128 table) (t .config) fresh (rules .rises) (m .latest .values))
       (expiresAt f (stepTable fm) (t .config) fresh (rules .rises) (m .latest .values)) 8 (omega arith) (expires-same fresh)
-      ∙ hopeful-machine g fm (length (g .fields)) (length (fm .states)) f (stepTable fm) (charted g fm f (stepTable fm) rules (s .setting))
+      ∙ hopeful-machine g fm (length (g .fields)) f (stepTable fm) (charted g fm f (stepTable fm) rules (s .setting))
       (gathered g fm (trailOf t)) (t .config) ready (m .number) fresh (m .latest .values) (carries g fm f table rules m s t w (m .latest .values) fresh new)
       (latest-fields g fm f (stepTable fm) rules (s .setting) m (s .loads)) (rules .rises)
       (marks g fm f (stepTable fm) rules (s .setting))

@@ -7,12 +7,12 @@ use lib.Dec.{leb}
 use lib.ListN.{length, getD}
 use Rattle.event_log.specs.Log.{Log}
 use Rattle.formula.specs.Formula.{Formula}
-use Rattle.formula.specs.Encode.{stepCommands}
 use Rattle.formula.specs.Lookup.{stepTable}
 use Rattle.machine.specs.Configuration.{Config}
 use Rattle.machine.specs.Firing.{leave}
 use Rattle.machine.specs.Machine.{fireAt, final}
-use Rattle.machine.proofs.Machine.{FiredAt, fire-at-some}
+use Rattle.machine.proofs.Machine.{FiredAt, fire-at-some, valid-fire}
+use Rattle.machine.proofs.Premises.{premises}
 use Rattle.slots.specs.declared.Thread.{Thread}
 use Rattle.machine_code.specs.inner.Bytes.{offsetOf}
 use Rattle.machine_code.proofs.FiringOnBytes.{StepAt, inside, target-byte}
@@ -31,25 +31,22 @@ module _ (g : Log) (fm : Formula) {l places : List ℕ} (f table : List ℕ) (ru
   found = fire-at-some g fm (conf g fm t) d (m .number) k e
 
   -- the step's bytes stand at the table's offset
-  stands : StepAt (length (g .fields)) (length (fm .states)) f (offsetOf table (t .config .state) k) (found .step)
+  stands : StepAt (length (g .fields)) f (offsetOf table (t .config .state) k) (found .step)
   stands =
-      subst (λ (at : ℕ). StepAt (length (g .fields)) (length (fm .states)) f at (found .step)) (sym (fires-stands g fm f table rules m s t w k h d e))
-      (subst (StepThere (length (g .fields)) (length (fm .states)) f (offsetOf (stepTable fm) (t .config .state) k)) (found .found)
+      subst (λ (at : ℕ). StepAt (length (g .fields)) f at (found .step)) (sym (fires-stands g fm f table rules m s t w k h d e))
+      (subst (StepThere (length (g .fields)) f (offsetOf (stepTable fm) (t .config .state) k)) (found .found)
       (charted g fm f (stepTable fm) rules (s .setting) .stands (t .config .state) k h) .1)
 
   pub target-inside : offsetOf table (t .config .state) k < length f
-  target-inside = inside (length (g .fields)) (length (fm .states)) f (offsetOf table (t .config .state) k) (found .step) stands
+  target-inside = inside (length (g .fields)) f (offsetOf table (t .config .state) k) (found .step) stands
 
   target-left : d .state ≡ found .step .target
   unfolding leave
   target-left = ap (λ (x : Config). x .state) (found .fired .leaves)
 
-  target-declared : found .step .target < length (fm .states)
-  unfolding stepCommands
-  target-declared = stands .exist .0
-
   pub target-final : leb 2 (getD (rules .kinds) (getD f (offsetOf table (t .config .state) k + 1) 0) 0) ≡ final fm d
   target-final =
       ap (λ i. leb 2 (getD (rules .kinds) i 0))
-      (target-byte (length (g .fields)) (length (fm .states)) f (offsetOf table (t .config .state) k) (found .step) stands ∙ sym target-left)
-      ∙ final-at g fm f (stepTable fm) rules (s .setting) d (subst (λ i. i < length (fm .states)) (sym target-left) target-declared)
+      (target-byte (length (g .fields)) f (offsetOf table (t .config .state) k) (found .step) stands ∙ sym target-left)
+      ∙ final-at g fm f (stepTable fm) rules (s .setting) d
+      (valid-fire g fm (premises g fm (s .setting .log) (s .setting .formula)) (conf g fm t) d (m .number) k (w .valid) e .declared)

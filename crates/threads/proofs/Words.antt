@@ -42,7 +42,7 @@ by-committed reject = refl
 
 module _ (g : Log) (fm : Formula) (f table : List ℕ) (rules : Rules) (s : Setting g fm f table rules) where
   word-at : (i : ℕ) → i < length (fm .states) → getD (rules .kinds) i 0 ≡ getD (words (fm .states)) i 0
-  word-at i h = ap (λ (l : List ℕ). getD l i 0) (s .kinds-are) ∙ getD-pad 16 0 (words (fm .states)) i (omega (arith, s .formula .states))
+  word-at i h = ap (λ (l : List ℕ). getD l i 0) (s .kinds-are) ∙ getD-pad 16 0 (words (fm .states)) i (omega (arith, s .formula .formed .states))
 
   pub final-at : (d : Config) → d .state < length (fm .states) → leb 2 (getD (rules .kinds) (d .state) 0) ≡ final fm d
   unfolding final

@@ -18,7 +18,7 @@ pub struct Counts {
     /// Rows by their verdict: none, alert, subsumed, rejected.
     pub rows: [usize; 4],
     /// Refusals by their number.
-    pub refusals: [usize; 13],
+    pub refusals: [usize; 14],
 }
 
 impl Counts {

@@ -10,7 +10,7 @@ use reference::formula;
 use reference::log::Log;
 use reference::machine::Setting;
 use reference::refusal::{Refusal, CALL, CROWDED, FOREIGN, OUTSIDE, SHORT, SURPLUS};
-use reference::refusal::{TWICE, UNBOUND, VALUE};
+use reference::refusal::{ABSENT_STATE, DEAD_START, TWICE, UNBOUND, VALUE};
 use reference::runs::threads;
 use reference::search::{self, Answer, SEAT_WORDS};
 use std::sync::atomic::{AtomicUsize, Ordering};
@@ -82,10 +82,14 @@ pub enum Fault {
     NinthGather,
     GatherAnywhere,
     ListAsVariable,
+    AbsentAsValue,
+    AbsentCountAsValue,
+    AbsentLast,
+    AbsentAfterDeadStart,
 }
 
 impl Fault {
-    pub const ALL: [Fault; 63] = [
+    pub const ALL: [Fault; 67] = [
         Fault::LogPlace,
         Fault::LogFile,
         Fault::LogFields,
@@ -149,6 +153,10 @@ impl Fault {
         Fault::NinthGather,
         Fault::GatherAnywhere,
         Fault::ListAsVariable,
+        Fault::AbsentAsValue,
+        Fault::AbsentCountAsValue,
+        Fault::AbsentLast,
+        Fault::AbsentAfterDeadStart,
     ];
 }
 
@@ -217,6 +225,9 @@ unsafe extern "C" fn hikwallu_read_formula(
     if has(Fault::TwiceAsValue) && refusal.number == TWICE {
         answer.number = VALUE as usize;
     }
+    if refusal.number == ABSENT_STATE {
+        return absent(refusal, formula, &log);
+    }
     match has(Fault::FormulaAccepted) || is_passed(&refusal, formula, fields) {
         true => Refused::default(),
         false if is_late(&refusal, formula, fields) => Refused {
@@ -224,6 +235,31 @@ unsafe extern "C" fn hikwallu_read_formula(
             ..answer
         },
         false => answer,
+    }
+}
+
+/// The answer for an absent state. The others are found by mending the first.
+fn absent(refusal: Refusal, formula: &[u8], log: &Log) -> Refused {
+    let is_count = formula[refusal.place] == 0x22;
+    let mut mended = formula.to_vec();
+    let mut last = refusal;
+    let other = loop {
+        mended[last.place + 1] = 0;
+        match formula::read(&mended, log) {
+            Err(next) if next.number == ABSENT_STATE => last = next,
+            other => break other.err(),
+        }
+    };
+    let mut answer = refused(&refusal);
+    if has(Fault::AbsentAsValue) || (has(Fault::AbsentCountAsValue) && is_count) {
+        answer.number = VALUE as usize;
+    }
+    match other {
+        _ if has(Fault::AbsentLast) => refused(&last),
+        Some(other) if has(Fault::AbsentAfterDeadStart) && other.number == DEAD_START => {
+            refused(&other)
+        }
+        _ => answer,
     }
 }
 

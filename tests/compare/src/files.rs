@@ -48,6 +48,36 @@ pub fn examples() -> Vec<Pair> {
     pairs.into_iter().map(pair).collect()
 }
 
+/// Formulas that name absent states: next to another, by a COUNT, far out of
+/// reach, with bytes behind END, a dead start or an unbound variable.
+pub fn absent() -> Vec<Pair> {
+    let formulas = [
+        "1000 1101 00",
+        "1000 11FF 00",
+        "1000 1100 15 2201 00",
+        "1000 1100 15 2210 00",
+        "1000 1100 15 22FF 1101 00",
+        "1000 1101 15 22FF 00",
+        "1000 1100 15 2B 2200 2201 2202 1103 00",
+        "1000 1102 1103 1000 1102 1002 1101 00",
+        "1000 1102 1000 1103 00 00",
+        "1000 1102 1000 1103",
+        "1000 1102 12090000000000 00",
+        "1000 1105 1002 12010000000000 00",
+        "1002 1000 1102 00",
+        "1003 1000 1100 15 2202 00",
+        "1000 1100 13000000 1101 00",
+        "1000 1100 15 23 2100 2201 00",
+        "1000 1101 15 2201 1002 00",
+    ];
+    let log = examples().swap_remove(0).log;
+    let pair = |formula| Pair {
+        log: log.clone(),
+        formula: hex(formula),
+    };
+    formulas.map(pair).to_vec()
+}
+
 /// A guard that has every expression command.
 fn every_expression() -> Vec<u8> {
     let since = op(SUB, &[var(1), var(0)]);

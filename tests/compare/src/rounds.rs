@@ -197,8 +197,12 @@ fn brief(comparison: &mut Comparison, files: Files) -> Check {
     comparison.analysis(files, 4 * SEAT_WORDS, ROW_WORDS * events(files) + 5)
 }
 
-/// Events and seats at their limits, and heavy formulas on shorter logs.
+/// Absent states, events and seats at their limits, heavy formulas on shorter
+/// logs.
 pub fn limits(comparison: &mut Comparison) -> Check {
+    for pair in files::absent() {
+        brief(comparison, pair.files())?;
+    }
     for over in 0..=1 {
         let pair = files::longest(over);
         brief(comparison, pair.files())?;

@@ -264,6 +264,13 @@ fn absent_states_wait_until_behind_end() {
     assert!(outcome(hex("1000 1101 15 2201 1002 00")).is_ok());
     // Also in a state that no path reaches.
     assert_eq!(refused_text("1000 1000 1109 00"), (2, 13, 4));
+    // Any other operand that does not exist is told where it stands.
+    assert_eq!(refused_text("1000 1109 1604 00"), (2, 2, 4));
+    assert_eq!(refused_text("1000 1109 1400 08 00"), (2, 3, 4));
+    assert_eq!(refused_text("1000 1109 15 2108 00"), (2, 3, 5));
+    // Before an unbound variable, wherever it stands.
+    assert_eq!(refused_text("1000 1100 13000000 1101 00"), (2, 13, 8));
+    assert_eq!(refused_text("1000 1100 15 23 2100 2201 00"), (2, 13, 8));
 }
 
 #[test]

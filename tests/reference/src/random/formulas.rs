@@ -110,10 +110,11 @@ fn whole_step(dice: &mut Dice, plan: &Plan, number: usize) -> Vec<u8> {
         if plan.wild && dice.chance(20) {
             known.push(dice.below(8) as u8);
         }
+        let absent = usize::from(plan.wild && dice.chance(20));
         let scope = Scope {
             variables: &known,
             lists: &plan.lists,
-            states: plan.kinds.len(),
+            states: plan.kinds.len() + absent,
             top: plan.log.top,
         };
         bytes.extend(guard(any(dice, &scope)));
@@ -179,7 +180,7 @@ fn target(dice: &mut Dice, plan: &Plan, number: usize) -> u8 {
     let states = plan.kinds.len();
     let any = dice.below(states);
     let rolled = match dice.below(200) {
-        0..=8 if plan.wild => states + dice.below(3),
+        0..=8 if plan.wild => dice.pick(&[states, states + 1, 16, 17, 255]),
         0..=40 => number,
         41..=120 => (number + 1).min(states - 1),
         _ if number == 0 && plan.kinds[any] >= 2 => dice.below(states),
