@@ -92,8 +92,8 @@ formula-absent f fields r bytes reads =
       exactly = (
         λ s. record { place = s .place; is = absent-there fields f bytes (s .place) (refused-so (s .place) (s .says)) },
         λ s.
-        let a = absent-answered fields f (s .place) (s .is) in
-        record { place = a .0; says = ap (λ (x : FormulaReading). x .acceptance) (reads ∙ ap FormulaAnswer.answerOf (a .1)) },
+            let a = absent-answered fields f (s .place) (s .is) in
+            record { place = a .0; says = ap (λ (x : FormulaReading). x .acceptance) (reads ∙ ap FormulaAnswer.answerOf (a .1)) },
       );
       there = λ p e. absent-there fields f bytes p (refused-so p e);
       first = λ p q e. absent-lowest fields f p q (refused-so p e);

@@ -162,6 +162,7 @@ judged-place f p e = go (firstAbsent (length (f .states)) 0 (commands f)) refl
         → firstUnbound (isUnbound f) 0 [] 0 (commands f) ≡ u → none ≡ some p
     unbound a d none q = let x = then-accepted f 0 a d q in cc
     unbound a d (some k) q = let x = then-unbound f 0 k a d q in cc
+
     go : (o : Option ℕ) → firstAbsent (length (f .states)) 0 (commands f) ≡ o → o ≡ some p
     go (some k) q = let x = then-absent f 0 k q in cc
     go none q = dead (deadStart (f .states)) refl

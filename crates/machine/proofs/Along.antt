@@ -111,7 +111,8 @@ pub step-once : (fields : ℕ) (formula : Formula) → Correct fields formula �
 unfolding stepAt stepsOf
 step-once fields formula c s k t h =
     all-some StepFits (stepsOf formula s) k t h
-    (all-getD (λ (y : State). All StepFits (y .steps)) (formula .states) s (record { kind = ordinary; steps = [] }) (each (formula .states) (c .formed .each)) tt) .0
+    (all-getD (λ (y : State). All StepFits (y .steps)) (formula .states) s (record { kind = ordinary; steps = [] })
+    (each (formula .states) (c .formed .each)) tt) .0
     .once
   where
     each : (xs : List State) → All StateFits xs → All (λ (y : State). All StepFits (y .steps)) xs
