@@ -46,7 +46,7 @@ OneMore foreign-op = Unit {0}
 two : (a b : Expr) → suc (length (encodeExpr a ++ encodeExpr b)) ≡ suc (length (encodeExpr a) + length (encodeExpr b))
 two a b = ap suc (length-append (encodeExpr a) (encodeExpr b))
 
-pub three : (a b c : Expr)
+three : (a b c : Expr)
     → suc (length (encodeExpr a ++ (encodeExpr b ++ encodeExpr c))) ≡ suc (length (encodeExpr a) + (length (encodeExpr b) + length (encodeExpr c)))
 three a b c =
     ap suc

@@ -7,6 +7,7 @@ pub mod Assembling
 pub mod Closure
 pub mod Counts
 pub mod AfterEnd
+pub mod Leaves
 pub mod CommandRefusals
 pub mod Reading
 pub mod Fuel

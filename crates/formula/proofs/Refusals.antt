@@ -12,9 +12,10 @@ use Rattle.base.proofs.Lists.{flatMap-append}
 use Rattle.refusal.specs.declared.File.the-variants.{Formula as InFormula}
 use Rattle.refusal.specs.declared.Refusal.{Refusal}
 use Rattle.refusal.specs.declared.Refusal.the-variants.{Leftover, DeadStart, Unbound as UnboundAt, AbsentState}
-use Rattle.formula.specs.Formula.{Leaf, Expr, LEAF, ADD, SUB, LESS, ATMOST, EQUAL, NOT, AND, OR, IF, Clause, TEST, TESTV, BIND, GATHER, Formula}
+use Rattle.formula.specs.Formula.{Leaf, Expr, Clause, TEST, TESTV, BIND, GATHER, Formula}
 use Rattle.formula.specs.Encode.{Command, TIED, STATE, STEP, CLAUSE, GUARD, guardCommands, stepCommands, stateCommands, commands, encodeExpr}
 use Rattle.formula.specs.Encode.{encodeCommand}
+use Rattle.formula.specs.Absent.{LeafAt}
 use Rattle.formula.specs.Unbound.{isUnbound}
 use Rattle.formula.specs.Correct.{deadStart}
 use Rattle.formula.specs.declared.Summary.{Summary}
@@ -22,7 +23,8 @@ use Rattle.formula.specs.Read.{Reading, accepted, refused, start, advanc
 use Rattle.formula.specs.Read.{Next, command, end, bad, next, Assembly}
 use Rattle.formula.specs.Read.{inFront, assembly, assemble, orElse, when, firstLeaf, absentLeaf, absentIn, firstAbsent, seenAfter, ownAfter}
 use Rattle.formula.specs.Read.{unboundLeaf, unboundIn, firstUnbound, refusedAt, judge, afterEnd, follow, readFrom, readFormula}
-use Rattle.formula.proofs.CommandRefusals.{CommandRefusal, cut-short, three, Tells, next-tells}
+use Rattle.formula.proofs.CommandRefusals.{CommandRefusal, cut-short, Tells, next-tells}
+use Rattle.formula.proofs.Leaves.{First, leaf-inside, leaf-first}
 use Rattle.formula.proofs.Reading.{encode-snoc}
 
 -- a refusal of a formula with n bytes: of one of its commands, or behind END
@@ -46,31 +48,12 @@ when-within : (n : ℕ) (t : Bool) (at : ℕ) → at ≤ n → Within n (when t 
 when-within n true at h = place h
 when-within n false at h = nowhere
 
-module _ (n : ℕ) (p : Leaf → Bool) where
-  abbrev LeafWithin : ℕ → Expr → Type 0
-  LeafWithin at e = at + length (encodeExpr e) ≤ n → Within n (firstLeaf p at e)
-
-  -- two operands in a row
-  two-within : (at : ℕ) (a b : Expr) → at + suc (length (encodeExpr a ++ encodeExpr b)) ≤ n → LeafWithin (at + 1) a
-      → LeafWithin (at + 1 + length (encodeExpr a)) b
-      → Within n (orElse (firstLeaf p (at + 1) a) (firstLeaf p (at + 1 + length (encodeExpr a)) b))
-  two-within at a b h f g = let k = length-append (encodeExpr a) (encodeExpr b) in else-within (f (omega arith)) (g (omega arith))
-
-  leaf-within : (at : ℕ) (e : Expr) → LeafWithin at e
-  unfolding firstLeaf encodeExpr
-  leaf-within at (LEAF l) h = when-within n (p l) at (omega arith)
-  leaf-within at (ADD a b) h = two-within at a b h (leaf-within (at + 1) a) (leaf-within (at + 1 + length (encodeExpr a)) b)
-  leaf-within at (SUB a b) h = two-within at a b h (leaf-within (at + 1) a) (leaf-within (at + 1 + length (encodeExpr a)) b)
-  leaf-within at (LESS a b) h = two-within at a b h (leaf-within (at + 1) a) (leaf-within (at + 1 + length (encodeExpr a)) b)
-  leaf-within at (ATMOST a b) h = two-within at a b h (leaf-within (at + 1) a) (leaf-within (at + 1 + length (encodeExpr a)) b)
-  leaf-within at (EQUAL a b) h = two-within at a b h (leaf-within (at + 1) a) (leaf-within (at + 1 + length (encodeExpr a)) b)
-  leaf-within at (NOT a) h = leaf-within (at + 1) a (omega arith)
-  leaf-within at (AND a b) h = two-within at a b h (leaf-within (at + 1) a) (leaf-within (at + 1 + length (encodeExpr a)) b)
-  leaf-within at (OR a b) h = two-within at a b h (leaf-within (at + 1) a) (leaf-within (at + 1 + length (encodeExpr a)) b)
-  leaf-within at (IF c a b) h =
-      let i = at + 1 + length (encodeExpr c) in
-      let k = three c a b in
-      else-within (leaf-within (at + 1) c (omega arith)) (else-within (leaf-within i a (omega arith)) (leaf-within (i + length (encodeExpr a)) b (omega arith)))
+leaf-within : (n : ℕ) (p : Leaf → Bool) (at : ℕ) (e : Expr) → at + length (encodeExpr e) ≤ n → Within n (firstLeaf p at e)
+leaf-within n p at e h = go (firstLeaf p at e) (leaf-first p (λ l. p l ≡ false) (λ l q. q) (λ l q. q) at e)
+  where
+    go : (o : Option ℕ) → First (LeafAt (λ l. ¬ (p l ≡ false)) at e) o → Within n o
+    go none f = nowhere
+    go (some k) f = let i = leaf-inside (λ l. ¬ (p l ≡ false)) k at e (f .0) .1 in place {p = k} (omega arith)
 
 -- the bytes of commands
 abbrev bytesIn : List Command → ℕ
