@@ -17,7 +17,7 @@ use Rattle.refusal.specs.declared.Refusal.the-variants.{Leftover, AbsentState}
 use Rattle.refusal.specs.Refusals.{reportOf}
 use Rattle.formula.specs.Formula.{Formula}
 use Rattle.formula.specs.Encode.{Command, TIED, STATE, STEP, CLAUSE, GUARD, commands, encodeCommand, encode}
-use Rattle.formula.specs.Correct.{LeafDeclared, deadStart, WellFormed}
+use Rattle.formula.specs.Correct.{LeafDeclared, deadStart}
 use Rattle.formula.specs.Unbound.{isUnbound}
 use Rattle.formula.specs.Absent.{CommandNames, NamesFrom, AbsentAt}
 use Rattle.formula.specs.Read.{Reading, refused, absentLeaf, absentIn, firstAbsent, firstUnbound, judge, afterEnd, readFormula}
@@ -77,6 +77,11 @@ judged-place f p e = go (firstAbsent (length (f .states)) 0 (commands f)) refl
         dead true d = let x = then-dead-start f 0 q d in cc
         dead false d = unbound q d (firstUnbound (isUnbound f) 0 [] 0 (commands f)) refl
 
+-- which is the first at which a STEP or COUNT names an absent state
+judged-first : (f : Formula) (p : ℕ) → judge f ≡ refused (AbsentState p) → First (NamesFrom (length (f .states)) 0 (commands f)) (some p)
+judged-first f p e =
+    subst (First (NamesFrom (length (f .states)) 0 (commands f))) (judged-place f p e) (names-first (length (f .states)) 0 (commands f))
+
 -- where a STEP or COUNT names an absent state, the formula is refused with it
 judged-absent : (f : Formula) (q : ℕ) → NamesFrom (length (f .states)) 0 (commands f) q → (p : ℕ) × (judge f ≡ refused (AbsentState p))
 unfolding afterEnd
@@ -87,12 +92,6 @@ judged-absent f q h = go (firstAbsent (length (f .states)) 0 (commands f)) refl 
     go none e n = absurd (n q h)
     go (some p) e n = (p, then-absent f 0 p e)
 
--- the file is well formed up to END, and nothing is left over
-record Formed (fields : ℕ) (file : List ℕ) : Type 0 where
-  formula : Formula
-  encoded : file ≡ encode formula
-  formed : WellFormed fields formula
-
 -- no refusal with a lower number is this one
 lower : (r : Refusal) (p : ℕ) → reportOf r .number < 13 → refused r ≡ refused (AbsentState p) → ⊥
 lower r p h e =
@@ -100,47 +99,31 @@ lower r p h e =
     omega (arith, ap (λ (x : Refusal). reportOf x .number) q)
 
 module _ (fields : ℕ) (file : List ℕ) where
-  abbrev IfAbsent : Reading → Type 0
-  IfAbsent x = (p : ℕ) → x ≡ refused (AbsentState p) → Formed fields file
+  abbrev Told : Reading → Type 0
+  Told x = (p : ℕ) → x ≡ refused (AbsentState p) → AbsentAt fields file p
 
-  -- no command is refused with it, and nothing behind END
-  not-a-command : (n : ℕ) (r : Refusal) → CommandRefusal n r → IfAbsent (refused r)
+  -- no command is refused with it, and nothing is left over behind END
+  not-a-command : (n : ℕ) (r : Refusal) → CommandRefusal n r → Told (refused r)
   not-a-command n r (cut-short h) p e = absurd (lower r p (omega arith) e)
   not-a-command n r (foreign h) p e = absurd (lower r p (omega arith) e)
   not-a-command n r (value h) p e = absurd (lower r p (omega arith) e)
   not-a-command n r (surplus h) p e = absurd (lower r p (omega arith) e)
   not-a-command n r (twice h) p e = absurd (lower r p (omega arith) e)
 
-  nothing-left : (f : Formula) (at : ℕ) (after : List ℕ) → Complete fields file f after → IfAbsent (afterEnd f at after)
+  behind-end : (f : Formula) (at : ℕ) (after : List ℕ) → Complete fields file f after → Told (afterEnd f at after)
   unfolding afterEnd
-  nothing-left f at [] c p e = record { formula = f; encoded = c .bytes ∙ append-nil (encode f); formed = c .formed }
-  nothing-left f at (b ∷ bs) c p e = absurd (lower (Leftover InFormula at) p (omega arith) e)
-
-  -- the formula of a file that is refused with 13 at p, or has an absent state, was judged so
-  place-found : (f : Formula) (p : ℕ) → file ≡ encode f → WellFormed fields f → readFormula fields file ≡ refused (AbsentState p)
-      → firstAbsent (length (f .states)) 0 (commands f) ≡ some p
-  place-found f p e w h = judged-place f p (sym (formed-judged fields f w) ∙ (ap (readFormula fields) (sym e) ∙ h))
+  behind-end f at [] c p e =
+      record { formula = f; encoded = c .bytes ∙ append-nil (encode f); formed = c .formed; names = judged-first f p e .0 }
+  behind-end f at (b ∷ bs) c p e = absurd (lower (Leftover InFormula at) p (omega arith) e)
 
   -- refused with 13 at p: a STEP or COUNT at p names an absent state
   pub absent-there : Bytes file → (p : ℕ) → readFormula fields file ≡ refused (AbsentState p) → AbsentAt fields file p
-  absent-there b p h =
-      let t = reading-holds fields file IfAbsent not-a-command nothing-left b p h in
-      let f = t .formula in
-      record {
-        formula = f;
-        encoded = t .encoded;
-        formed = t .formed;
-        names =
-            subst (First (NamesFrom (length (f .states)) 0 (commands f))) (place-found f p (t .encoded) (t .formed) h)
-            (names-first (length (f .states)) 0 (commands f)) .0;
-      }
+  absent-there b = reading-holds fields file Told not-a-command behind-end b
 
   -- and none before it does
   pub absent-lowest : (p q : ℕ) → readFormula fields file ≡ refused (AbsentState p) → AbsentAt fields file q → p ≤ q
   absent-lowest p q h a =
-      let f = a .formula in
-      subst (First (NamesFrom (length (f .states)) 0 (commands f))) (place-found f p (a .encoded) (a .formed) h)
-      (names-first (length (f .states)) 0 (commands f)) .1 q (a .names)
+      judged-first (a .formula) p (sym (formed-judged fields (a .formula) (a .formed)) ∙ (ap (readFormula fields) (sym (a .encoded)) ∙ h)) .1 q (a .names)
 
   -- where one does, 13 is answered
   pub absent-answered : (q : ℕ) → AbsentAt fields file q → (p : ℕ) × (readFormula fields file ≡ refused (AbsentState p))
