@@ -1,15 +1,16 @@
 -- The three demands as theorems about the public entries: whatever meets an entry's contract meets them. l and f are the bytes of the two files
 -- (a slice of bytes is a list of numbers below 256).
-use Prim.Native.Nat.{ℕ, _*_, _≤_, _<_}
+use Prim.Native.Nat.{ℕ, _+_, _*_, _≤_, _<_}
 use mathlib.Core.Path.{_≡_, refl, sym, _∙_, subst}
 use mathlib.Core.List.{List}
-use lib.ListN.{length}
+use lib.ListN.{length, getD}
 use Rattle.base.specs.Lists.{Bytes}
 use Rattle.event_log.specs.declared.LogReading.{LogReading}
 use Rattle.event_log.specs.File.{LogFile, logOf}
 use Rattle.event_log.specs.Read.{readLog, answerOf as logAnswer, ReadsLog}
 use Rattle.event_log.proofs.Accepted.{encoding-is-accepted}
 use Rattle.formula.specs.Formula.{Formula}
+use Rattle.formula.specs.Located.{Located}
 use Rattle.formula.specs.Read.{readFormula}
 use Rattle.formula.proofs.Reading.{correct-accepted}
 use Rattle.formula_code.specs.declared.FormulaReading.{FormulaReading}
@@ -26,7 +27,7 @@ use Rattle.exports.specs.declared.LogRead.{LogRead}
 use Rattle.exports.specs.declared.Found.{Found}
 use Rattle.exports.specs.Exports.{ExportsLog, ExportsFormula, ExportsSearch, ExportsAnalysis}
 use Rattle.demands.specs.Demands.{IsLog, IsFormula, FirstOfLog, FirstOfFormula, AbsentOfFormula, FirstOfSearch, FirstOfAnalysis}
-use Rattle.demands.specs.Demands.{SecondOfLog, SecondOfFormula, SecondOfSearch, ThirdOfSearch, ThirdOfRows}
+use Rattle.demands.specs.Demands.{SecondOfLog, SecondOfFormula, StepsOfFormula, SecondOfSearch, ThirdOfSearch, ThirdOfRows}
 use Rattle.demands.specs.Demands.{HandsOnLog, HandsOnFormula, HandsOnSearch, HandsOnAnalysis}
 use Rattle.demands.proofs.Files as Files
 use Rattle.demands.proofs.Calls as Calls
@@ -60,6 +61,15 @@ second-log l r b c = Files.log-second l r b c
 
 pub second-formula : (f : List ℕ) (fields : ℕ) (r : FormulaReading) → Bytes f → ReadsFormula f fields r → SecondOfFormula f fields r
 second-formula f fields r b c = Files.formula-second f fields r b c
+
+-- the table that firing finds its steps by: for every state and step number, the offset of that STEP or that there is none
+pub steps-formula : (f : List ℕ) (fields : ℕ) (r : FormulaReading) → ReadsFormula f fields r → StepsOfFormula f fields r
+steps-formula f fields r c = Files.formula-steps f fields r c
+
+-- no other table says so
+pub steps-formula-only : (f : List ℕ) (fields : ℕ) (r : FormulaReading) → ReadsFormula f fields r → (fm : Formula) → IsFormula fields f fm → (table : List ℕ)
+    → length table ≡ 128 → ((s k : ℕ) → s < 16 → k < 8 → Located fm s k (getD table (s * 8 + k) 0)) → table ≡ r .table
+steps-formula-only f fields r c fm is table n says = Files.formula-steps-only f fields r c fm is table n says
 
 module _ (l f : List ℕ) (bytes : Bytes l) (more : Bytes f) where
   -- the events of a named run rise by their number in the file

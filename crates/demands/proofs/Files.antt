@@ -1,7 +1,7 @@
 -- The first and the second demand on files: whatever meets the contract of `read_log` or `read_formula` tells a refusal by file, number and place,
 -- and accepts exactly the encodings of correct logs and formulas, each read as the one that it encodes.
-use Prim.Native.Nat.{ℕ, suc, _<_, _≤_}
-use mathlib.Core.Path.{_≡_, refl, sym, ap, _∙_}
+use Prim.Native.Nat.{ℕ, suc, _+_, _*_, _/_, _%_, _<_, _≤_}
+use mathlib.Core.Path.{_≡_, refl, sym, ap, subst, _∙_}
 use mathlib.Core.Bool.{true}
 use mathlib.Core.List.{List, [], _∷_, _++_, flatMap, append-assoc}
 use native.Mathlib.Omega.{arith}
@@ -9,7 +9,7 @@ use borrow.Author.Tests.{eqb-true, eq-eqb}
 use lib.Dec.{eqb}
 use native.Mathlib.Nat.{le-of-lt}
 use lib.ListN.{length, getD, take, drop, take-append-drop}
-use lib.Seq.{length-take-le}
+use lib.Seq.{length-take-le, ext-getD}
 use Rattle.base.specs.Lists.{Bytes}
 use Rattle.refusal.specs.declared.Refusal.{Refusal}
 use Rattle.refusal.specs.declared.Refusal.the-variants.{AbsentState}
@@ -26,10 +26,13 @@ use Rattle.event_log.proofs.Accepted as LogLaws
 use Rattle.event_log.proofs.Answers.{log-taken}
 use Rattle.event_log.proofs.Refusals.{LogRefusal, log-refusal}
 use Rattle.formula.specs.Formula.{Formula}
+use Rattle.formula.specs.Located.{Located}
 use Rattle.formula.specs.Read as FormulaRead
 use Rattle.formula.proofs.Basics.{all-left}
 use Rattle.formula.proofs.Reading as FormulaLaws
 use Rattle.formula.proofs.CommandRefusals.{CommandRefusal}
+use Rattle.formula.proofs.Places.{table-length}
+use Rattle.formula.proofs.Located.{table-located, located-only, begins-entered}
 use Rattle.formula.proofs.Refusals.{FormulaRefusal, of-command, formula-refusal}
 use Rattle.formula.proofs.Absent.{absent-there, absent-lowest, absent-answered}
 use Rattle.formula_code.specs.declared.FormulaReading.{FormulaReading}
@@ -37,7 +40,7 @@ use Rattle.formula_code.specs.Answer as FormulaAnswer
 use Rattle.formula_code.proofs.Answers.{formula-taken, formula-refused}
 use Rattle.runs.specs.inner.Lists.{has}
 use Rattle.runs.proofs.Lists.{has-in}
-use Rattle.demands.specs.Demands.{IsLog, IsFormula, Told, FirstOfFile, FirstOfLog, FirstOfFormula, AbsentOfFormula, SomeLog, SomeFormula, Recorded, SecondOfLog, SecondOfFormula}
+use Rattle.demands.specs.Demands.{IsLog, IsFormula, Told, FirstOfFile, FirstOfLog, FirstOfFormula, AbsentOfFormula, SomeLog, SomeFormula, Recorded, SecondOfLog, SecondOfFormula, StepsOfFormula}
 
 -- FIRST DEMAND
 
@@ -164,6 +167,36 @@ module _ (f : List ℕ) (fields : ℕ) (r : FormulaReading) (reads : FormulaAnsw
   formula-answer g is =
       reads ∙ ap FormulaAnswer.answerOf (ap (FormulaRead.readFormula fields) (is .encoded) ∙ FormulaLaws.correct-accepted fields g (is .correct))
 
+-- The table has for every state and step number the offset of that STEP or that there is none.
+pub formula-steps : (f : List ℕ) (fields : ℕ) (r : FormulaReading) → FormulaAnswer.ReadsFormula f fields r → StepsOfFormula f fields r
+unfolding FormulaAnswer.answerOf
+formula-steps f fields r reads =
+    let answer : (g : Formula) → IsFormula fields f g → r ≡ FormulaAnswer.answerOf (FormulaRead.accepted g) = formula-answer f fields r reads in
+    record {
+      entries = ap (λ (x : FormulaReading). length (x .table)) reads ∙ long (FormulaRead.readFormula fields f);
+      located = λ g i s k h l. rw (answer g i) (table-located g s k h l);
+      entered = λ g i s k p b. rw (answer g i, i .encoded) (begins-entered fields g (i .correct) s k p b);
+      refused = λ why e.
+          ap (λ (x : FormulaReading). x .table)
+          (reads ∙ ap FormulaAnswer.answerOf
+          (formula-refused (FormulaRead.readFormula fields f) why (ap (λ (x : FormulaReading). x .acceptance) (sym reads) ∙ e)));
+    }
+  where
+    long : (x : FormulaRead.Reading) → length (FormulaAnswer.answerOf x .table) ≡ 128
+    long (FormulaRead.accepted g) = table-length g
+    long (FormulaRead.refused why) = refl
+
+-- no other table of so many entries does
+pub formula-steps-only : (f : List ℕ) (fields : ℕ) (r : FormulaReading) → FormulaAnswer.ReadsFormula f fields r → (fm : Formula) → IsFormula fields f fm
+    → (table : List ℕ) → length table ≡ 128 → ((s k : ℕ) → s < 16 → k < 8 → Located fm s k (getD table (s * 8 + k) 0)) → table ≡ r .table
+formula-steps-only f fields r reads fm is table n says =
+    let steps = formula-steps f fields r reads in
+    ext-getD 0 table (r .table) (n ∙ sym (steps .entries)) (λ i h.
+    let e : i / 8 * 8 + i % 8 ≡ i = omega arith in
+    let a = says (i / 8) (i % 8) (omega arith) (omega arith) in
+    let b = steps .located fm is (i / 8) (i % 8) (omega arith) (omega arith) in
+    subst (λ j. getD table j 0 ≡ getD (r .table) j 0) e (located-only fm (i / 8) (i % 8) (getD table (i / 8 * 8 + i % 8) 0) (getD (r .table) (i / 8 * 8 + i % 8) 0) a b))
+
 -- A formula is accepted exactly when it is the encoding of a correct one, and read as that one.
 pub formula-second : (f : List ℕ) (fields : ℕ) (r : FormulaReading) → Bytes f → FormulaAnswer.ReadsFormula f fields r → SecondOfFormula f fields r
 unfolding FormulaAnswer.answerOf
@@ -174,6 +207,5 @@ formula-second f fields r bytes reads =
       one = λ g h i j. FormulaLaws.encode-injective fields g h (i .correct) (j .correct) (sym (i .encoded) ∙ j .encoded);
       states = λ g i. ap (λ (x : FormulaReading). x .states) (answer g i);
       state-kinds = λ g i. ap (λ (x : FormulaReading). x .kinds) (answer g i);
-      steps = λ g i. ap (λ (x : FormulaReading). x .table) (answer g i);
       tied = λ g i. ap (λ (x : FormulaReading). x .tied) (answer g i);
     }

@@ -23,7 +23,8 @@ use Rattle.formula.specs.Formula.{Formula}
 use Rattle.formula.specs.Correct as FormulaCorrect
 use Rattle.formula.specs.Absent.{AbsentAt}
 use Rattle.formula.specs.Encode as FormulaEncode
-use Rattle.formula.specs.Lookup.{stepTable, tiedMask}
+use Rattle.formula.specs.Located.{StepBegins, Located}
+use Rattle.formula.specs.Lookup.{tiedMask}
 use Rattle.formula_code.specs.declared.FormulaReading.{FormulaReading}
 use Rattle.formula_code.specs.Answer.{kindsOf, ReadsFormula}
 use Rattle.runs.specs.Lists.{In}
@@ -168,8 +169,18 @@ pub record SecondOfFormula (f : List ℕ) (fields : ℕ) (r : FormulaReading) : 
   pub one : (g h : Formula) → IsFormula fields f g → IsFormula fields f h → g ≡ h
   pub states : (fm : Formula) → IsFormula fields f fm → r .states ≡ length (fm .states)
   pub state-kinds : (fm : Formula) → IsFormula fields f fm → r .kinds ≡ kindsOf (fm .states)
-  pub steps : (fm : Formula) → IsFormula fields f fm → r .table ≡ stepTable fm
   pub tied : (fm : Formula) → IsFormula fields f fm → r .tied ≡ tiedMask fm
+
+-- where its steps begin: "a table proved to give, for every state and step number, the offset of that STEP or that there is none"
+pub record StepsOfFormula (f : List ℕ) (fields : ℕ) (r : FormulaReading) : Type 0 where
+  -- step k of state s has entry s * 8 + k: the offset of that STEP, or 0, which is no STEP's offset, where there is none
+  pub entries : length (r .table) ≡ 128
+  pub located : (fm : Formula) → IsFormula fields f fm → (s k : ℕ) → s < 16 → k < 8 → Located fm s k (getD (r .table) (s * 8 + k) 0)
+  -- every STEP of the file has its entry, and at the offset stands its byte
+  pub entered : (fm : Formula) → IsFormula fields f fm → (s k p : ℕ) → StepBegins fm s k p
+      → (s < 16) × (k < 8) × (getD (r .table) (s * 8 + k) 0 ≡ p) × (getD f p 0 ≡ 0x11)
+  -- of a refused file no step is told
+  pub refused : (why : Refusal) → r .acceptance ≡ FileIs.Refused why → r .table ≡ replicate 128 0
 
 -- the events that a search names begin with the start and rise by their number, whatever their values are
 pub record SecondOfSearch (start : ℕ) (r : SearchAnswer) : Type 0 where

@@ -14,6 +14,7 @@ pub mod Fuel
 pub mod Places
 pub mod Steps
 pub mod Table
+pub mod Located
 pub mod Ties
 pub mod Refusals
 pub mod Absent

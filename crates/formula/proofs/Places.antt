@@ -6,7 +6,7 @@ use mathlib.Core.List.{List, [], _∷_, _++_, map, flatMap, append-assoc, append
 use mathlib.Core.Option.{Option, none, some, Option·none-ne-some, Option·some-injective}
 use native.Mathlib.Omega.{arith}
 use native.Mathlib.Decide.{decLt}
-use lib.ListN.{length, getD, take, drop, getElem?, length-append}
+use lib.ListN.{length, getD, take, drop, getElem?, length-append, take-append-drop}
 use lib.Seq.{drop-drop, split-at, drop-append-seam, drop-append-add}
 use Rattle.base.proofs.Lists.{flatMap-append}
 use Rattle.formula.specs.Formula.{Expr, Clause, Step, State, Formula}
@@ -45,14 +45,9 @@ step-bytes t =
     ap (λ r. 0x11 ∷ t .target ∷ r)
     (flatMap-append encodeCommand (map CLAUSE (t .clauses)) (guardCommands (t .guard)) ∙ (rw (flat-clauses (t .clauses), flat-guard (t .guard))))
 
--- the commands behind a step: the later steps of its state, then the later states
-pub commandsBehind : Formula → ℕ → ℕ → List Command
-commandsBehind f s k = flatMap stepCommands (drop (suc k) (stepsOf f s)) ++ flatMap stateCommands (drop (suc s) (f .states))
-
-split-here : (xs : List Step) (k : ℕ) (t : Step) → getElem? xs k ≡ some t → xs ≡ take k xs ++ (t ∷ drop (suc k) xs)
-split-here [] k t e = absurd (Option·none-ne-some t e)
-split-here (x ∷ xs) zero t e = ap (λ r. r ∷ xs) (Option·some-injective x t e)
-split-here (x ∷ xs) (suc k) t e = ap (λ r. x ∷ r) (split-here xs k t e)
+-- the commands from step k of a state on: the steps from there, then the later states
+pub commandsFrom : Formula → ℕ → ℕ → List Command
+commandsFrom f s k = flatMap stepCommands (drop k (stepsOf f s)) ++ flatMap stateCommands (drop (suc s) (f .states))
 
 pub state-there : (f : Formula) (s k : ℕ) (t : Step) → stepAt f s k ≡ some t → s < length (f .states)
 unfolding stepAt
@@ -62,32 +57,54 @@ state-there f s k t e = go (decLt s (length (f .states)))
     go (yes h) = h
     go (no h) = absurd (Option·none-ne-some t (ap (λ (xs : List Step). getElem? xs k) (sym (no-steps f s (omega arith))) ∙ e))
 
-glue : (t a b c d e : List Command) (x : Command) → t ++ (a ++ ((x ∷ (b ++ (c ++ d))) ++ e)) ≡ (t ++ (a ++ (x ∷ b))) ++ (c ++ (d ++ e))
-glue t a b c d e x = rw (append-assoc t (a ++ (x ∷ b)) (c ++ (d ++ e)), append-assoc a (x ∷ b) (c ++ (d ++ e)), append-assoc b (c ++ d) e, append-assoc c d e)
+glue : (t a b c d : List Command) (x : Command) → t ++ (a ++ ((x ∷ (b ++ c)) ++ d)) ≡ (t ++ (a ++ (x ∷ b))) ++ (c ++ d)
+glue t a b c d x = rw (append-assoc t (a ++ (x ∷ b)) (c ++ d), append-assoc a (x ∷ b) (c ++ d), append-assoc b c d)
 
--- the commands of a formula are those before the step, its own and those behind it
-pub commands-split : (f : Formula) (s k : ℕ) (t : Step) → stepAt f s k ≡ some t → commands f ≡ commandsBefore f s k ++ (stepCommands t ++ commandsBehind f s k)
-unfolding stepAt stepsOf commands commandsBefore commandsBehind kindAt flatMap stateCommands
-commands-split f s k t e =
+-- the commands of a formula are those before step k of a state and those from there on, whether there is such a step or not
+pub commands-parted : (f : Formula) (s k : ℕ) → s < length (f .states) → commands f ≡ commandsBefore f s k ++ commandsFrom f s k
+unfolding stepsOf commands commandsBefore commandsFrom kindAt flatMap stateCommands
+commands-parted f s k h =
     let xs = f .states in
     let x = getD xs s noState in
-    let a : xs ≡ take s xs ++ (x ∷ drop (suc s) xs) = split-at xs s noState (state-there f s k t e) in
-    let b : flatMap stateCommands xs ≡ flatMap stateCommands (take s xs) ++ (stateCommands x ++ flatMap stateCommands (drop (suc s) xs)) =
-    ap (flatMap stateCommands) a ∙ flatMap-append stateCommands (take s xs) (x ∷ drop (suc s) xs) in
-    let c : flatMap stepCommands (stepsOf f s) ≡ flatMap stepCommands (take k (stepsOf f s)) ++
-    (stepCommands t ++ flatMap stepCommands (drop (suc k) (stepsOf f s))) =
-    ap (flatMap stepCommands) (split-here (stepsOf f s) k t e)
-    ∙ flatMap-append stepCommands (take k (stepsOf f s)) (t ∷ drop (suc k) (stepsOf f s)) in
-    let d : stateCommands x ≡ STATE (x .kind) ∷
-    (flatMap stepCommands (take k (stepsOf f s)) ++ (stepCommands t ++ flatMap stepCommands (drop (suc k) (stepsOf f s)))) =
-    ap (λ r. STATE (x .kind) ∷ r) c in
-    ap (λ r. map TIED (f .tied) ++ r) (b ∙ ap (λ r. flatMap stateCommands (take s xs) ++ (r ++ flatMap stateCommands (drop (suc s) xs))) d)
-    ∙ glue (map TIED (f .tied)) (flatMap stateCommands (take s xs)) (flatMap stepCommands (take k (stepsOf f s))) (stepCommands t)
-    (flatMap stepCommands (drop (suc k) (stepsOf f s))) (flatMap stateCommands (drop (suc s) xs)) (STATE (x .kind))
+    let p = flatMap stepCommands (take k (x .steps)) in
+    let q = flatMap stepCommands (drop k (x .steps)) in
+    let a : flatMap stateCommands xs ≡ flatMap stateCommands (take s xs) ++ (stateCommands x ++ flatMap stateCommands (drop (suc s) xs)) =
+    ap (flatMap stateCommands) (split-at xs s noState h) ∙ flatMap-append stateCommands (take s xs) (x ∷ drop (suc s) xs) in
+    let b : flatMap stepCommands (x .steps) ≡ p ++ q =
+    ap (flatMap stepCommands) (sym (take-append-drop k (x .steps))) ∙ flatMap-append stepCommands (take k (x .steps)) (drop k (x .steps)) in
+    ap (λ r. map TIED (f .tied) ++ r) (a ∙ ap (λ r. flatMap stateCommands (take s xs) ++ ((STATE (x .kind) ∷ r) ++ flatMap stateCommands (drop (suc s) xs))) b)
+    ∙ glue (map TIED (f .tied)) (flatMap stateCommands (take s xs)) p q (flatMap stateCommands (drop (suc s) xs)) (STATE (x .kind))
+
+drop-there : (xs : List Step) (k : ℕ) (t : Step) → getElem? xs k ≡ some t → drop k xs ≡ t ∷ drop (suc k) xs
+drop-there [] k t e = absurd (Option·none-ne-some t e)
+drop-there (x ∷ xs) zero t e = ap (λ r. r ∷ xs) (Option·some-injective x t e)
+drop-there (x ∷ xs) (suc k) t e = drop-there xs k t e
+
+-- where there is one, they are its own and those behind it
+from-step : (f : Formula) (s k : ℕ) (t : Step) → stepAt f s k ≡ some t → commandsFrom f s k ≡ stepCommands t ++ commandsFrom f s (suc k)
+unfolding stepAt commandsFrom flatMap
+from-step f s k t e =
+    rw (drop-there (stepsOf f s) k t e)
+    (append-assoc (stepCommands t) (flatMap stepCommands (drop (suc k) (stepsOf f s))) (flatMap stateCommands (drop (suc s) (f .states))))
+
+-- where there is none, they are the later states
+pub from-none : (f : Formula) (s k : ℕ) → stepAt f s k ≡ none → commandsFrom f s k ≡ flatMap stateCommands (drop (suc s) (f .states))
+unfolding stepAt commandsFrom flatMap
+from-none f s k e = rw (past (stepsOf f s) k e)
+  where
+    past : (xs : List Step) (k : ℕ) → getElem? xs k ≡ none → drop k xs ≡ []
+    past [] zero e = refl
+    past [] (suc k) e = refl
+    past (x ∷ xs) zero e = absurd (Option·none-ne-some x (sym e))
+    past (x ∷ xs) (suc k) e = past xs k e
+
+pub commands-split : (f : Formula) (s k : ℕ) (t : Step) → stepAt f s k ≡ some t
+    → commands f ≡ commandsBefore f s k ++ (stepCommands t ++ commandsFrom f s (suc k))
+commands-split f s k t e = commands-parted f s k (state-there f s k t e) ∙ ap (λ r. commandsBefore f s k ++ r) (from-step f s k t e)
 
 -- the bytes behind a step
 bytesBehind : Formula → ℕ → ℕ → List ℕ
-bytesBehind f s k = flatMap encodeCommand (commandsBehind f s k) ++ (0x00 ∷ [])
+bytesBehind f s k = flatMap encodeCommand (commandsFrom f s (suc k)) ++ (0x00 ∷ [])
 
 behind-boundary : (xs : List Step) (ys : List State) → Boundary (flatMap encodeCommand (flatMap stepCommands xs ++ flatMap stateCommands ys) ++ (0x00 ∷ []))
 unfolding flatMap stepCommands stateCommands encodeCommand
@@ -110,16 +127,16 @@ unfolding encode bytesBehind
 encode-split f s k t e =
     rw (
       commands-split f s k t e,
-      flatMap-append encodeCommand (commandsBefore f s k) (stepCommands t ++ commandsBehind f s k),
-      flatMap-append encodeCommand (stepCommands t) (commandsBehind f s k),
+      flatMap-append encodeCommand (commandsBefore f s k) (stepCommands t ++ commandsFrom f s (suc k)),
+      flatMap-append encodeCommand (stepCommands t) (commandsFrom f s (suc k)),
       step-bytes t,
-      append-assoc (flatMap encodeCommand (commandsBefore f s k)) (encodeStep t ++ flatMap encodeCommand (commandsBehind f s k)) (0x00 ∷ []),
-      append-assoc (encodeStep t) (flatMap encodeCommand (commandsBehind f s k)) (0x00 ∷ []),
+      append-assoc (flatMap encodeCommand (commandsBefore f s k)) (encodeStep t ++ flatMap encodeCommand (commandsFrom f s (suc k))) (0x00 ∷ []),
+      append-assoc (encodeStep t) (flatMap encodeCommand (commandsFrom f s (suc k))) (0x00 ∷ []),
     )
 
 -- where a step begins, and where its guard does
 pub step-stands : (f : Formula) (s k : ℕ) (t : Step) → stepAt f s k ≡ some t → StandsAt f s k t
-unfolding stepPlace guardPlace encodeStep bytesBehind commandsBehind
+unfolding stepPlace guardPlace encodeStep bytesBehind commandsFrom
 step-stands f s k t e =
     let p = flatMap encodeCommand (commandsBefore f s k) in
     let q = flatMap encodeClause (t .clauses) in

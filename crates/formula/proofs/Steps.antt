@@ -15,7 +15,7 @@ use Rattle.formula.specs.Correct.{isFinal, Exists, StepFits, StateFits, 
 use Rattle.formula.specs.Lookup.{stepAt, kindAt, commandsBefore}
 use Rattle.formula.proofs.Basics.{all-left, all-right}
 use Rattle.formula.proofs.Closure.{noState}
-use Rattle.formula.proofs.Places.{commandsBehind, commands-split, state-there}
+use Rattle.formula.proofs.Places.{commandsFrom, commands-split, state-there}
 
 -- step k of state s is t, in a correct formula for a log with so many fields
 pub record RightStep (fields : ℕ) (f : Formula) (s k : ℕ) (t : Step) : Type 0 where
@@ -50,7 +50,7 @@ right-step fields f s k t c e =
     let p = all-some StepFits (x .steps) k t e (h .each) in
     let q = p .1 in
     let m = h .steps in
-    let a : All (Exists fields) (commandsBefore f s k ++ (stepCommands t ++ commandsBehind f s k)) =
+    let a : All (Exists fields) (commandsBefore f s k ++ (stepCommands t ++ commandsFrom f s (suc k))) =
     subst (All (Exists fields)) (commands-split f s k t e) (c .formed .values) in
     record {
       state = i;
@@ -58,6 +58,6 @@ right-step fields f s k t c e =
       kind = has-step x k t h e (isFinal (x .kind)) refl;
       fits = p .0;
       exist =
-          all-left (Exists fields) (stepCommands t) (commandsBehind f s k)
-          (all-right (Exists fields) (commandsBefore f s k) (stepCommands t ++ commandsBehind f s k) a);
+          all-left (Exists fields) (stepCommands t) (commandsFrom f s (suc k))
+          (all-right (Exists fields) (commandsBefore f s k) (stepCommands t ++ commandsFrom f s (suc k)) a);
     }

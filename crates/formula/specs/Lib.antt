@@ -6,4 +6,5 @@ pub mod Correct
 pub mod Absent
 pub mod Read
 pub mod Lookup
+pub mod Located
 pub mod inner
