@@ -1,6 +1,7 @@
-// Runs the formula reader on the bench's formulas F and G, cut at every byte and with every byte set to 0, 1, 2, 17 and 255, and on a
-// gathering formula, cut and with some bytes set, against a log of two fields, and prints each answer: the file, number and place of a
-// refusal, or an accepted formula's number of states.
+// Runs the formula reader on the bench's formulas F and G and on one with steps of several lengths, cut at every byte and with every
+// byte set to 0, 1, 2, 17 and 255, on a gathering formula, cut and with some bytes set, and on one with every state and step that there
+// may be, against a log of two fields, and prints each answer: the file, number and place of a refusal, or an accepted formula's number
+// of states and the state, number and offset of each step.
 use libc::STDOUT_FILENO;
 use refusal::Acceptance;
 
@@ -8,6 +9,26 @@ use refusal::Acceptance;
 fn put(n: usize) {
     io::write_all(STDOUT_FILENO, b" ");
     io::print_decimal(STDOUT_FILENO, n as u64);
+}
+
+// The state, number and offset of the step at index i of the table, if there is one.
+fn put_step(i: usize, at: usize) {
+    if 0 < at {
+        put(i / 8);
+        io::write_all(STDOUT_FILENO, b".");
+        io::print_decimal(STDOUT_FILENO, (i % 8) as u64);
+        io::write_all(STDOUT_FILENO, b"@");
+        io::print_decimal(STDOUT_FILENO, at as u64);
+    }
+}
+
+// The steps of a table.
+fn put_steps(table: [usize; 128]) {
+    let mut i: usize = 0;
+    while i < 128 {
+        put_step(i, table[i]);
+        i += 1;
+    }
 }
 
 // What the reader answers, on one line.
@@ -18,6 +39,8 @@ fn show(f: &[u8]) {
         Acceptance::Accepted => {
             io::write_all(STDOUT_FILENO, b"accepted");
             put(r.states);
+            let table = r.table;
+            put_steps(table);
         }
         Acceptance::Refused(why) => {
             let t = refusal::report_of(why);
@@ -182,6 +205,74 @@ fn gathering() -> [u8; 32] {
     ]
 }
 
+// Steps of several lengths: three of state 0, the second with a BIND, none of state 1, two of state 2, the first with a GUARD; 27 bytes.
+fn several_steps() -> [u8; 32] {
+    [
+        22,
+        3,
+        16,
+        0,
+        17,
+        1,
+        17,
+        2,
+        20,
+        0,
+        0,
+        17,
+        0,
+        16,
+        1,
+        16,
+        0,
+        17,
+        0,
+        21,
+        34,
+        0,
+        17,
+        3,
+        16,
+        2,
+        0,
+        0,
+        0,
+        0,
+        0,
+        0,
+    ]
+}
+
+// Byte j of an ordinary state with 8 bare steps, all into state 15.
+fn state_byte(j: usize) -> u8 {
+    match j {
+        0 => 16,
+        1 => 0,
+        _ => { if j % 2 == 0 { 17 } else { 15 } }
+    }
+}
+
+// Byte i of a formula with 15 such states and one that accepts.
+fn full_byte(i: usize) -> u8 {
+    match i {
+        270 => 16,
+        271 => 2,
+        272 => 0,
+        _ => state_byte(i % 18),
+    }
+}
+
+// The whole of it; 273 bytes.
+fn show_full() {
+    let mut f = [0u8; 273];
+    let mut i: usize = 0;
+    while i < 273 {
+        f[i] = full_byte(i);
+        i += 1;
+    }
+    show(&f);
+}
+
 // The gathering formula with one byte set.
 fn show_gathering(at: usize, b: u8) {
     show_set(gathering(), 22, at, b);
@@ -201,4 +292,7 @@ fn main() {
     show_gathering(8, 2);
     show_gathering(13, 7);
     show_gathering(16, 12);
+    show_cuts(several_steps(), 28);
+    show_sets(several_steps(), 27);
+    show_full();
 }

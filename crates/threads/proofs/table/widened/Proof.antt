@@ -77,7 +77,8 @@ loop-again c =
     let c3 = c .before .before .before in
     let c4 = c3 .before in
     let c5 = c4 .before in
-    copied-next (now (c5 .args .steps)) (c4 .loop .table) (c4 .loop .i) (getD (now (c5 .args .steps)) (c4 .loop .i) 0) (c3 .loop-test .taken)
+    copied-next (now (c5 .args .steps)) (c4 .loop .table) (c4 .loop .i) (getD (now (c5 .args .steps)) (c4 .loop .i) 0)
+    (omega (arith, c3 .loop-test .taken))
     refl (c4 .loop .inv)
 
 returns : tie.Need-returns Inv-loop μ-loop
