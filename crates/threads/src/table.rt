@@ -1,5 +1,6 @@
-// The table of an event, in three parts: where each step stands, in the first 0 where the event alone keeps the step from firing, in
-// the second 0 where the event alone makes it expired. A TEST reads no variable, so that one look serves every thread.
+// The table of an event, derived from the reader's table of steps and from nothing else, in three parts: where each step stands, in
+// the first 0 where the event alone keeps the step from firing, in the second 0 where the event alone makes it expired. A TEST reads no
+// variable, so that one look serves every thread.
 use crate::Moment;
 use crate::Seats;
 ghost use mathlib.Core.Path.{_≡_};
