@@ -1,4 +1,4 @@
--- Definitions of the formula: syntax, encoding, correct formulas, absent states, reading, where a step stands.
+-- Definitions of the formula: syntax, encoding, correct formulas, absent states, reading, where a step begins.
 pub mod Formula
 pub mod Encode
 pub mod Unbound

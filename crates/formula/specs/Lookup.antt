@@ -1,4 +1,5 @@
--- Where a step stands: a step by its state and number, its offset in the file, the table of all offsets; and the tied variables as a mask.
+-- A step by its state and number, and the tied variables as a mask; besides, computed and proved to be what `Located` says: the offset of a step in
+-- the file, and the table of all offsets.
 use Prim.Native.Nat.{ℕ, zero, suc, _+_, _/_, _%_, _^_}
 use mathlib.Core.Bool.{Bool, false, cond, _||_}
 use mathlib.Core.List.{List, [], _∷_, _++_, map, flatMap}

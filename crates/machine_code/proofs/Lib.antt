@@ -8,3 +8,4 @@ pub mod ExpiryOnBytes
 pub mod StepsByNumber
 pub mod SameMachine
 pub mod Offsets
+pub mod TableAlone
