@@ -1,7 +1,7 @@
 // Runs the formula reader on the bench's formulas F and G and on one with steps of several lengths, cut at every byte and with every
-// byte set to 0, 1, 2, 17 and 255, on a gathering formula, cut and with some bytes set, and on one with every state and step that there
-// may be, against a log of two fields, and prints each answer: the file, number and place of a refusal, or an accepted formula's number
-// of states and the state, number and offset of each step.
+// byte set to 0, 1, 2, 17 and 255, on a gathering formula, cut and with some bytes set, and on one with all 128 steps that there may be,
+// against a log of two fields, and prints each answer: the file, number and place of a refusal, or an accepted formula's number of
+// states and the state, number and offset of each step.
 use libc::STDOUT_FILENO;
 use refusal::Acceptance;
 
@@ -252,22 +252,12 @@ fn state_byte(j: usize) -> u8 {
     }
 }
 
-// Byte i of a formula with 15 such states and one that accepts.
-fn full_byte(i: usize) -> u8 {
-    match i {
-        270 => 16,
-        271 => 2,
-        272 => 0,
-        _ => state_byte(i % 18),
-    }
-}
-
-// The whole of it; 273 bytes.
+// A formula with 16 such states, all the steps that there may be; 289 bytes.
 fn show_full() {
-    let mut f = [0u8; 273];
+    let mut f = [0u8; 289];
     let mut i: usize = 0;
-    while i < 273 {
-        f[i] = full_byte(i);
+    while i < 288 {
+        f[i] = state_byte(i % 18);
         i += 1;
     }
     show(&f);

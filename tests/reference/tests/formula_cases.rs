@@ -79,10 +79,10 @@ fn several_steps() -> Vec<u8> {
     file(&[tied(3), state(0), three, state(1), state(0), two, state(2)])
 }
 
-/// Every state and step that there may be.
+/// All the steps that there may be.
 fn full() -> Vec<u8> {
     let busy = join(&[state(0), step(15).repeat(8)]);
-    file(&[busy.repeat(15), state(2)])
+    file(&[busy.repeat(16)])
 }
 
 #[test]

@@ -7,16 +7,16 @@ use Rattle.formula_cases.proofs.show_full.Statement.{statement}
 use Rattle.formula_cases.proofs.show_full.Tie as tie
 
 abbrev Inv-loop : tie.InvT-loop
-Inv-loop f₀ i₀ f i = (i ≤ 273) × (length f ≡ 273)
+Inv-loop f₀ i₀ f i = (i ≤ 288) × (length f ≡ 289)
 
 abbrev μ-loop : tie.MeasureT-loop
-μ-loop f₀ i₀ f i = 273 - i
+μ-loop f₀ i₀ f i = 288 - i
 
 loop-holds : tie.Need-loop-holds Inv-loop μ-loop
 loop-holds c = search needs
 
-full-byte-requires : tie.Need-full-byte-requires Inv-loop μ-loop
-full-byte-requires c κs = search needs
+state-byte-requires : tie.Need-state-byte-requires Inv-loop μ-loop
+state-byte-requires c κs = search needs
 
 array-write-f : tie.Need-array-write-f Inv-loop μ-loop
 array-write-f c = search needs
@@ -46,7 +46,7 @@ show-full-spec =
     Inv-loop
     μ-loop
     loop-holds
-    full-byte-requires
+    state-byte-requires
     array-write-f
     add-i
     loop-less
