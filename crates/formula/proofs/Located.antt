@@ -177,7 +177,7 @@ none-behind m n (x ∷ b) (y ∷ c) r h t e z p q =
 -- THE TABLE
 
 -- a step of the formula begins at its place
-pub begins-there : (f : Formula) (s k : ℕ) (t : Step) → stepAt f s k ≡ some t → StepBegins f s k (stepPlace f s k)
+begins-there : (f : Formula) (s k : ℕ) (t : Step) → stepAt f s k ≡ some t → StepBegins f s k (stepPlace f s k)
 unfolding stepAt stepPlace stepCommands
 begins-there f s k t e =
     record {
@@ -196,7 +196,7 @@ begins-there f s k t e =
     so-many (x ∷ xs) (suc k) e = ap suc (so-many xs k e)
 
 -- a step has one offset
-pub one-offset : (f : Formula) (s k p q : ℕ) → StepBegins f s k p → StepBegins f s k q → p ≡ q
+one-offset : (f : Formula) (s k p q : ℕ) → StepBegins f s k p → StepBegins f s k q → p ≡ q
 one-offset f s k p q a b =
     sym (a .offset)
     ∙ (ap (λ c. length (flatMap encodeCommand c))
@@ -205,7 +205,7 @@ one-offset f s k p q a b =
     ∙ b .offset)
 
 -- where the formula has no such step, none begins
-pub begins-nowhere : (f : Formula) (s k p : ℕ) → stepAt f s k ≡ none → StepBegins f s k p → ⊥
+begins-nowhere : (f : Formula) (s k p : ℕ) → stepAt f s k ≡ none → StepBegins f s k p → ⊥
 begins-nowhere f s k p e b = go (decLt s (length (f .states)))
   where
     go : Dec (s < length (f .states)) → ⊥
@@ -227,7 +227,7 @@ begins-nowhere f s k p e b = go (decLt s (length (f .states)))
         )
 
 -- a step that begins somewhere is one of the formula, and begins at its place
-pub begins-step : (f : Formula) (s k p : ℕ) → StepBegins f s k p → (t : Step) × (stepAt f s k ≡ some t) × (stepPlace f s k ≡ p)
+begins-step : (f : Formula) (s k p : ℕ) → StepBegins f s k p → (t : Step) × (stepAt f s k ≡ some t) × (stepPlace f s k ≡ p)
 begins-step f s k p b = go (stepAt f s k) refl
   where
     go : (o : Option Step) → stepAt f s k ≡ o → (t : Step) × (stepAt f s k ≡ some t) × (stepPlace f s k ≡ p)

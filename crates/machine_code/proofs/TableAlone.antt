@@ -89,7 +89,7 @@ module _ (f g : List ℕ) (at : ℕ) (long : length f ≡ length g) (rest : drop
   unfolding gained
   gained-alone rises = rw (← long) (gain-alone f g (suc at) long rest fresh rises event (suc (length f)) (at + 2) _ (omega arith))
 
-  pub fired-alone : fired f at c fresh event ≡ fired g at c fresh event
+  fired-alone : fired f at c fresh event ≡ fired g at c fresh event
   unfolding fired guardAt
   fired-alone =
       let w = walked-alone (replicate 8 false) in
@@ -103,7 +103,7 @@ module _ (f g : List ℕ) (at : ℕ) (long : length f ≡ length g) (rest : drop
         long,
       )
 
-  pub lapsed-alone : (rises : List Bool) → lapsed f at c fresh rises event ≡ lapsed g at c fresh rises event
+  lapsed-alone : (rises : List Bool) → lapsed f at c fresh rises event ≡ lapsed g at c fresh rises event
   unfolding lapsed guardAt fallsAt
   lapsed-alone rises =
       let w = walked-alone rises in
