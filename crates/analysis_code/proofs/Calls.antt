@@ -6,6 +6,8 @@ use mathlib.Core.List.{List, []}
 use borrow.Author.Tests.{lt-ltb, le-ltb}
 use lib.ListN.{length, getD}
 use lib.Dec.{eqb}
+use Rattle.base.proofs.Masks.{length-bits}
+use Rattle.base.specs.Mask.{bitsOf}
 use Rattle.refusal.specs.declared.Refusal.{Refusal}
 use Rattle.refusal.specs.declared.Refusal.the-variants.{Short}
 use Rattle.refusal.specs.declared.Acceptance.the-variants as FileIs
@@ -30,10 +32,10 @@ use Rattle.files.specs.Files.{readFiles}
 use Rattle.files_code.specs.declared.FilesReading.{FilesReading}
 use Rattle.files_code.specs.inner.Reading.{Accepted, ReadsFiles}
 use Rattle.files_code.proofs.Answers.{files-refused, files-taken}
-use Rattle.analysis_code.specs.inner.Starts.{bitsOf, Ties, CheckedIs}
+use Rattle.analysis_code.specs.inner.Starts.{Ties, CheckedIs}
 use Rattle.analysis_code.proofs.Ties.{tied-same}
 use Rattle.analysis_code.proofs.Fitting.{tied-exist}
-use Rattle.analysis_code.proofs.Filling.{bits-length, bits-at}
+use Rattle.analysis_code.proofs.Filling.{bits-at}
 
 -- a call that is refused before it runs leaves every lent word as it was
 left-alone : {work rows : List ℕ} {why : Refusal} → Leaves (refusal why rows) work work rows (Refused why)
@@ -79,7 +81,7 @@ pub mask-ties : (t : LogFile) (fm : Formula) (l f : List ℕ) (log : LogReading)
     → tied ≡ bitsOf 8 (r .tied) → Ties fm tied
 unfolding formulaAnswer
 mask-ties t fm l f log r tied a marks =
-    tied-same (fm .tied) tied (tied-exist (logOf t) fm (a .formula-correct)) (ap length marks ∙ bits-length 8 (r .tied))
+    tied-same (fm .tied) tied (tied-exist (logOf t) fm (a .formula-correct)) (ap length marks ∙ length-bits 8 (r .tied))
     (λ v k. ap (λ bs. getD bs v false) marks ∙ ap (λ (x : FormulaReading). getD (bitsOf 8 (x .tied)) v false) (a .formula-read) ∙ tie-at fm v k)
 
 module _ (l f work rows : List ℕ) (files : FilesReading) (read : ReadsFiles l f files) where

@@ -1,7 +1,7 @@
 -- Filling a list from the front, the bits of a mask, and lists written out.
-use Prim.Native.Nat.{ℕ, zero, suc, _+_, _-_, _*_, _/_, _%_, _^_, _<_, _≤_}
-use mathlib.Core.Path.{_≡_, refl, ap, sym, _∙_}
-use mathlib.Core.Bool.{Bool, true, false}
+use Prim.Native.Nat.{ℕ, zero, suc, _+_, _-_, _/_, _%_, _^_, _<_, _≤_}
+use mathlib.Core.Path.{_≡_, ap, sym, _∙_}
+use mathlib.Core.Bool.{Bool, false}
 use mathlib.Core.List.{List, [], _∷_, _++_, append-nil, append-assoc}
 use native.Mathlib.Numerals.{add-one}
 use native.Mathlib.Nat.{add-assoc, pow-succ', div-div-eq-div-mul}
@@ -9,9 +9,8 @@ use native.Mathlib.Omega.{arith}
 use lib.ListN.{length, getD, take, drop, set, drop-of-length-le}
 use lib.Seq.{take-all, take-suc-set}
 use lib.Dec.{eqb}
-use Rattle.base.specs.Mask.{mask}
+use Rattle.base.specs.Mask.{mask, bitsOf}
 use Rattle.base.proofs.Lists.{drop-next}
-use Rattle.analysis_code.specs.inner.Starts.{bitsOf}
 
 module _ {A : Type 0} where
   -- what is written so far stands before what is still to come
@@ -41,25 +40,7 @@ bits-next whole held v rest h n e =
     let k : 8 - v ≡ suc (8 - (v + 1)) = omega arith in
     fill-next whole held (bitsOf (8 - (v + 1)) (rest / 2)) v (eqb (rest % 2) 1) (omega arith) (rw k at e)
 
--- a mask's bits are those that it was made of
-pub bits-mask : (hs : List Bool) → bitsOf (length hs) (mask hs) ≡ hs
-unfolding bitsOf mask
-bits-mask [] = refl
-bits-mask (true ∷ hs) =
-    let a : (1 + 2 * mask hs) % 2 ≡ 1 = omega arith in
-    let b : (1 + 2 * mask hs) / 2 ≡ mask hs = omega arith in
-    rw (a, b, bits-mask hs)
-bits-mask (false ∷ hs) =
-    let a : (0 + 2 * mask hs) % 2 ≡ 0 = omega arith in
-    let b : (0 + 2 * mask hs) / 2 ≡ mask hs = omega arith in
-    rw (a, b, bits-mask hs)
-
 -- a mask's bits by number
-pub bits-length : (n m : ℕ) → length (bitsOf n m) ≡ n
-unfolding bitsOf
-bits-length zero m = refl
-bits-length (suc n) m = ap suc (bits-length n (m / 2))
-
 pub bits-at : (n v m : ℕ) → v < n → getD (bitsOf n m) v false ≡ eqb (m / 2 ^ v % 2) 1
 unfolding bitsOf
 bits-at zero v m h = absurd (omega arith)

@@ -7,12 +7,13 @@ use native.Mathlib.Omega.{arith}
 use lib.ListN.{length, getD, take, drop, length-append, take-append-drop}
 use lib.Seq.{take-all, take-at, drop-at, drop-drop, length-take-le}
 use lib.Dec.{eqb}
-use Rattle.base.specs.Mask.{mask}
+use Rattle.base.proofs.Masks.{bits-back}
+use Rattle.base.specs.Mask.{mask, bitsOf}
 use Rattle.slots.specs.inner.Words.{put}
 use Rattle.slots.proofs.Parts.{drop-put, part-put-before}
 use Rattle.analysis.specs.Rows.{NamedRun, subsumed, verdict, noneRow, row}
-use Rattle.analysis_code.specs.inner.Starts.{bitsOf, runIn, runIf, runsIn}
-use Rattle.analysis_code.proofs.Filling.{bits-mask, eight-all}
+use Rattle.analysis_code.specs.inner.Starts.{runIn, runIf, runsIn}
+use Rattle.analysis_code.proofs.Filling.{eight-all}
 
 -- the words where they were written
 part-put : (l : List ℕ) (a : ℕ) (ws : List ℕ) → a ≤ length l → take (length ws) (drop a (put l a ws)) ≡ ws
@@ -79,7 +80,7 @@ pub row-back : (tied : List ℕ) (start : ℕ) (r : NamedRun) (earlier : List Na
     → runIf (row (verdict tied start r earlier) r) ≡ r ∷ []
 unfolding runIf runIn row
 row-back tied start r earlier h v =
-    let b : bitsOf 8 (mask (r .held)) ≡ r .held = rw h at (bits-mask (r .held)) in
+    let b : bitsOf 8 (mask (r .held)) ≡ r .held = rw h at (bits-back (r .held)) in
     let t : take 8 (r .values) ≡ r .values = take-all 8 (r .values) (omega arith) in
     rw (some-verdict tied start r earlier, accepts-back tied start r earlier, b, t)
 

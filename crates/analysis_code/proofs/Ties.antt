@@ -11,7 +11,7 @@ use lib.Seq.{drop-cons}
 use lib.Dec.{eqb}
 use Rattle.base.specs.Lists.{All}
 use Rattle.formula.specs.Lookup.{isTied}
-use Rattle.base.proofs.Tests.{and-left, and-right, and-true}
+use Rattle.base.proofs.Tests.{and-left, and-right, and-true, both-ways}
 use Rattle.analysis.specs.Rows.{NamedRun, alike, tiedAlike}
 use Rattle.analysis_code.specs.inner.Starts.{variablesFrom, variables, agrees}
 
@@ -19,12 +19,6 @@ use Rattle.analysis_code.specs.inner.Starts.{variablesFrom, variables, a
 pub unheld : (b : Bool) (x y : ℕ) → not b ≡ alike false b x y
 unheld true x y = refl
 unheld false x y = refl
-
--- two tests that hold alike are equal
-pub same-test : (a b : Bool) → (a ≡ true → b ≡ true) → (b ≡ true → a ≡ true) → a ≡ b
-same-test true b f g = sym (f refl)
-same-test false true f g = g refl
-same-test false false f g = refl
 
 -- what the tie rule asks of variable v
 abbrev at : ℕ → NamedRun → NamedRun → Bool
@@ -125,7 +119,7 @@ tied-below (w ∷ ws) v h e = go (eqb w v) refl e (tied-below ws v (h .1))
 -- The tie rule over the flags of the tied variables.
 pub tied-same : (ws : List ℕ) (tied : List Bool) → All (λ w. w < 8) ws → length tied ≡ 8 → ((v : ℕ) → v < 8 → getD tied v false ≡ isTied v ws)
     → (a b : NamedRun) → tiedAlike (variables tied) a b ≡ tiedAlike ws a b
-tied-same ws tied h n f a b = same-test (tiedAlike (variables tied) a b) (tiedAlike ws a b) into back
+tied-same ws tied h n f a b = both-ways (tiedAlike (variables tied) a b) (tiedAlike ws a b) into back
   where
     back : tiedAlike ws a b ≡ true → tiedAlike (variables tied) a b ≡ true
     back e = alike-out (variables tied) a b (λ v t. listed v (flagged-in v 0 tied t))

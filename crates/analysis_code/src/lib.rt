@@ -9,9 +9,10 @@ use search_code::Scope;
 ghost use mathlib.Core.Path.{_≡_};
 ghost use Prim.Native.Nat.{_+_, _-_, _*_, _≤_, _<_};
 ghost use lib.ListN.{length, getD, take, drop};
+ghost use Rattle.base.specs.Mask.{bitsOf};
 ghost use Rattle.analysis.specs.Rows.{tiedAlike, row, subsumed, verdict};
 ghost use Rattle.analysis.specs.Call.{Analyses};
-ghost use Rattle.analysis_code.specs.inner.Starts.{namedOf, variables, agrees, bitsOf, runIn, runIf, runsIn, runOf, rowBy, isRefused};
+ghost use Rattle.analysis_code.specs.inner.Starts.{namedOf, variables, agrees, runIn, runIf, runsIn, runOf, rowBy, isRefused};
 ghost use Rattle.analysis_code.specs.inner.Starts.{OneStart, AllStarts, CheckedIs};
 
 // A start's named run, as its row holds it.
@@ -257,7 +258,7 @@ fn one_start(rows: &mut [u32], tied: [bool; 8], start: usize, answer: SearchAnsw
     true
 }
 
-// Every start in order, up to one that is crowded.
+// Every start in order, up to one that is crowded; the last present values are carried from start to start.
 fn all_starts(
     l: &[u8],
     places: &[usize; 1024],
@@ -271,10 +272,12 @@ fn all_starts(
     requires { ⌜ (scope .slots * 192 ≤ length (now work)) × (1 ≤ scope .slots) × (scope .events ≤ 1024) × (12 * scope .events ≤ length (now rows)) × (length (now places) ≡ 1024) ⌝ }
     ensures { λ r. ⌜ AllStarts (now (l .entry)) (now (places .entry)) (now (f .entry)) (now (table .entry)) scope tied (now (rows .entry)) (now (rows .exit)) r ⌝ }
 {
+    let mut seen = event_log::none_seen();
     let mut start: usize = 0;
     while start < scope.events {
-        let answer = search_code::search_from(l, places, f, table, scope, start, work);
+        let answer = search_code::search_from(l, places, f, table, scope, start, seen, work);
         if one_start(rows, tied, start, answer) {
+            seen = search_code::seen_after(l, places, scope, start, seen);
             start += 1;
         } else {
             return Outcome::Refused(Refusal::Crowded { place: start });

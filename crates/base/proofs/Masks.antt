@@ -1,6 +1,6 @@
--- Masks bit by bit: made from the highest flag down, their size, and the bit at a place.
+-- Masks bit by bit: made from the highest flag down, their size, the bit at a place; and read back.
 use Prim.Native.Nat.{ℕ, zero, suc, _+_, _*_, _/_, _%_, _^_, _<_, _≤_}
-use mathlib.Core.Path.{_≡_}
+use mathlib.Core.Path.{_≡_, refl, ap, ap₂}
 use mathlib.Core.Bool.{Bool, true, false}
 use mathlib.Core.List.{List, [], _∷_}
 use native.Mathlib.Numerals.{add-one}
@@ -8,7 +8,8 @@ use native.Mathlib.Nat.{pow-suc, pow-succ', zero-div, div-div-eq-div-mul}
 use native.Mathlib.Omega.{arith}
 use lib.ListN.{length, getD, drop}
 use lib.Seq.{drop-cons}
-use Rattle.base.specs.Mask.{bit, mask}
+use lib.Dec.{eqb}
+use Rattle.base.specs.Mask.{bit, mask, bitsOf}
 
 -- one bit more of a mask is written, from the highest down
 pub mask-next : (hs : List Bool) (v w : ℕ) → w + 1 ≡ v → w < length hs → bit (getD hs w false) + 2 * mask (drop v hs) ≡ mask (drop w hs)
@@ -35,3 +36,28 @@ mask-bit (h ∷ hs) zero = omega (arith, bit-small h)
 mask-bit (h ∷ hs) (suc v) =
     let half : (bit h + 2 * mask hs) / 2 ≡ mask hs = omega (arith, bit-small h) in
     rw (pow-succ' 2 v, ← div-div-eq-div-mul (bit h + 2 * mask hs) 2 (2 ^ v), half) (mask-bit hs v)
+
+-- the lowest bit, and the others
+lowest : (h : Bool) (m : ℕ) → eqb ((bit h + 2 * m) % 2) 1 ≡ h
+lowest true m = let e : (bit true + 2 * m) % 2 ≡ 1 = omega arith in rw e
+lowest false m = let e : (bit false + 2 * m) % 2 ≡ 0 = omega arith in rw e
+
+pub others : (h : Bool) (m : ℕ) → (bit h + 2 * m) / 2 ≡ m
+others true m = omega arith
+others false m = omega arith
+
+-- as many bits as are asked for
+pub length-bits : (m b : ℕ) → length (bitsOf m b) ≡ m
+unfolding bitsOf
+length-bits zero b = refl
+length-bits (suc m) b = ap suc (length-bits m (b / 2))
+
+-- flags are read back from their mask
+pub bits-back : (hs : List Bool) → bitsOf (length hs) (mask hs) ≡ hs
+unfolding bitsOf mask
+bits-back [] = refl
+bits-back (h ∷ hs) = ap₂ (λ x l. x ∷ l) (lowest h (mask hs)) (rw (others h (mask hs)) (bits-back hs))
+
+-- halving goes on, for the next bit
+pub halve : (b k r : ℕ) → r ≡ b / 2 ^ k → r / 2 ≡ b / 2 ^ (k + 1)
+halve b k r e = rw (add-one k, e, pow-suc 2 k) (div-div-eq-div-mul b (2 ^ k) 2)

@@ -1,5 +1,5 @@
 -- Laws of tests that compute: choices, conjunctions and disjunctions.
-use mathlib.Core.Path.{_≡_, refl}
+use mathlib.Core.Path.{_≡_, refl, sym}
 use mathlib.Core.Bool.{Bool, true, false, cond, _&&_, _||_, false≢true, true≢false}
 
 -- a choice has a property if each branch has it, given the test
@@ -48,3 +48,14 @@ or-right false b h = h
 pub not-true-false : (a : Bool) → (a ≡ true → ⊥) → a ≡ false
 not-true-false true h = absurd (h refl)
 not-true-false false h = refl
+
+-- a test that holds changes no conjunction
+pub and-end : (a : Bool) → a ≡ (a && true)
+and-end true = refl
+and-end false = refl
+
+-- two tests that hold together are one
+pub both-ways : (a b : Bool) → (a ≡ true → b ≡ true) → (b ≡ true → a ≡ true) → a ≡ b
+both-ways true b f g = sym (f refl)
+both-ways false true f g = g refl
+both-ways false false f g = refl

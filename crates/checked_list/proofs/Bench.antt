@@ -11,16 +11,16 @@ use lib.ListN.{length, replicate}
 use lib.Dec.{leb, eqb}
 use Rattle.base.specs.Value.{bytesOf, valueAt}
 use Rattle.base.specs.Lists.{pad}
-use Rattle.base.specs.Mask.{mask}
+use Rattle.base.specs.Mask.{mask, bitsOf}
 use Rattle.refusal.specs.Refusals.{line, reportOf}
 use Rattle.refusal.specs.declared.Report.{Report}
 use Rattle.event_log.specs.Log.{plain, rising, eventAt}
 use Rattle.event_log.specs.Latest as Latest
-use Rattle.event_log.specs.File.{event, LogFile, eventsOf}
-use Rattle.event_log.specs.Encode.{encodeField, encodeEntry, encodeBody}
-use Rattle.event_log.specs.Event.{valuesFrom}
+use Rattle.event_log.specs.File.{full, event, LogFile, eventsOf}
+use Rattle.event_log.specs.Encode.{encodeField, encodePayload, encodeEntry, encodeBody}
+use Rattle.event_log.specs.Event.{valuesFrom, together, payloadAt}
 use Rattle.event_log.specs.Read as LogRead
-use Rattle.event_log.specs.Read.{draftOf, lastOf, falls, nextField, nextEvent, nextEnd, nextCommand, readLog}
+use Rattle.event_log.specs.Read.{draftOf, falls, beyond, strays, strayAt, nextField, nextEvent, nextEnd, nextCommand, readLog}
 use Rattle.formula.specs.Formula.{CONST, LEAF, ADD, SUB}
 use Rattle.formula.specs.Encode.{guardCommands, stepCommands, stateCommands, commands, encodeExpr, encodeClause, encodeCommand}
 use Rattle.formula.specs.Unbound.{stepsOf, binds, edgesFrom, mark, round, rounds, unbound, isUnbound}
@@ -53,11 +53,11 @@ use Rattle.checked_list.proofs.Exchange.{exchange}
 
 -- every definition on the way from the bytes to an answer: what a case unfolds
 unfoldable pub definitions : Unit {0}
-unfolding readLog LogRead.readFrom draftOf eventsOf lastOf falls nextField nextEvent nextEnd nextCommand encodeField encodeEntry encodeBody bytesOf valueAt
+unfolding readLog LogRead.readFrom draftOf eventsOf falls beyond strays strayAt bitsOf together payloadAt encodePayload nextField nextEvent nextEnd nextCommand encodeField encodeEntry encodeBody bytesOf valueAt
     valuesFrom pad flatMap readFormula FormulaRead.readFrom FormulaRead.start opcode operatorOf kindOf exprOpcode over exprWith readExpr next assembly assemble
     firstLeaf firstAbsent firstUnbound judge afterEnd guardCommands stepCommands stateCommands commands encodeExpr encodeClause encodeCommand binds edgesFrom
     mark round rounds unbound isUnbound Configuration.start same hold leave fires fire stepAt stepsOf eventAt Latest.over Latest.latest fireAt expiredAt
-    committed final accepting Expiry.rising Expiry.falling expired value keep inTurn has distinct lex order firing moves stays unended offers Runs.next endings
+    committed final accepting Expiry.rising Expiry.falling Expiry.known expired value keep inTurn has distinct lex order firing moves stays unended offers Runs.next endings
     lesser leastFrom least anyAlive hopeful waiting waitingCount scan origin search slotsOf Search.checked searchAnswer named tiedAlike subsumes subsumed
     verdict mask noneRow row rowsFrom Analysis.checked analysis ascii digits decimal word spaced variable each held variables details Text.line lineIn lines
     refusedLine printed
@@ -162,7 +162,7 @@ refused l f = report ((analysed l f 2) .outcome)
 
 -- what L says: a rising and a plain field, two events
 abbrev relay : LogFile
-relay = record { fields = rising ∷ plain ∷ []; entries = event (500 ∷ 1 ∷ []) ∷ event (500 ∷ 2 ∷ []) ∷ [] }
+relay = record { fields = rising ∷ plain ∷ []; entries = event (full (500 ∷ 1 ∷ [])) ∷ event (full (500 ∷ 2 ∷ [])) ∷ [] }
 
 -- The list.
 pub record Bench : Type 0 where

@@ -2,3 +2,4 @@
 pub mod Bench
 pub mod Exchange
 pub mod Bounces
+pub mod AbsentFields

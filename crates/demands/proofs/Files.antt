@@ -16,12 +16,11 @@ use Rattle.refusal.specs.declared.Refusal.the-variants.{AbsentState}
 use Rattle.refusal.specs.declared.Acceptance.the-variants as FileIs
 use Rattle.refusal.specs.Refusals.{reportOf}
 use Rattle.event_log.specs.declared.LogReading.{LogReading}
-use Rattle.event_log.specs.Log.{eventAt}
 use Rattle.event_log.specs.File.{event, LogFile, eventsOf, logOf}
 use Rattle.event_log.specs.Encode as LogEncode
 use Rattle.event_log.specs.Read as LogRead
 use Rattle.event_log.proofs.Encoding.{at-entry, events-append}
-use Rattle.event_log.proofs.Places.{length-entries, entry-split, table-place}
+use Rattle.event_log.proofs.Places.{length-entries, payloadOf, payload-values, entry-split, table-place}
 use Rattle.event_log.proofs.Accepted as LogLaws
 use Rattle.event_log.proofs.Answers.{log-taken}
 use Rattle.event_log.proofs.Refusals.{LogRefusal, log-refusal}
@@ -126,11 +125,13 @@ unfolding LogEncode.encodeBody
 log-recorded l t is n h =
     let es = t .entries in
     let inside : n < length es = omega (arith, length-entries es) in
-    let split : es ≡ take n es ++ (event ((eventAt (logOf t) n) .values) ∷ drop (suc n) es) = entry-split t n h in
+    let split : es ≡ take n es ++ (event (payloadOf t n) ∷ drop (suc n) es) = entry-split t n h in
     let before = take n es in
-    let e = is .encoded ∙ at-entry t before (event ((eventAt (logOf t) n) .values)) (drop (suc n) es) split in
+    let e = is .encoded ∙ at-entry t before (event (payloadOf t n)) (drop (suc n) es) split in
     record {
       before = before;
+      sent = payloadOf t n;
+      values = payload-values t n h;
       behind = flatMap LogEncode.encodeEntry (drop (suc n) es) ++ (0 ∷ []);
       count = length-entries before ∙ length-take-le n es (le-of-lt inside);
       whole =

@@ -14,7 +14,7 @@ use Rattle.refusal.specs.declared.Acceptance.the-variants as FileIs
 use Rattle.refusal.specs.Refusals.{reportOf, NotCrowded}
 use Rattle.event_log.specs.declared.LogReading.{LogReading}
 use Rattle.event_log.specs.Log.{Event, Log, eventAt}
-use Rattle.event_log.specs.File.{Entry, event, LogFile, eventsOf, logOf}
+use Rattle.event_log.specs.File.{Payload, valuesOf, Entry, event, LogFile, eventsOf, logOf}
 use Rattle.event_log.specs.Correct as LogCorrect
 use Rattle.event_log.specs.Encode as LogEncode
 use Rattle.event_log.specs.Event.{eventPlace}
@@ -147,11 +147,13 @@ pub record SomeFormula (fields : ℕ) (f : List ℕ) : Type 0 where
 -- event n of the log is the n-th EVENT command of the file, from 0: behind all FIELDs and n EVENTs, whatever its values
 pub record Recorded (l : List ℕ) (t : LogFile) (n : ℕ) : Type 0 where
   pub before : List Entry
+  pub sent : Payload
   pub behind : List ℕ
+  pub values : valuesOf sent ≡ (eventAt (logOf t) n) .values
   pub count : length (eventsOf before) ≡ n
   pub whole : All (λ (e : Event). length (e .values) ≡ length (t .fields)) (eventsOf before)
   pub stands : l ≡ flatMap LogEncode.encodeField (t .fields)
-      ++ (flatMap LogEncode.encodeEntry before ++ (LogEncode.encodeEntry (event ((eventAt (logOf t) n) .values)) ++ behind))
+      ++ (flatMap LogEncode.encodeEntry before ++ (LogEncode.encodeEntry (event sent) ++ behind))
 
 pub record SecondOfLog (l : List ℕ) (r : LogReading) : Type 0 where
   pub accepts : (r .acceptance ≡ FileIs.Accepted) ↔ SomeLog l

@@ -5,27 +5,27 @@ use mathlib.Core.Bool.{Bool, true, false, cond}
 use mathlib.Core.List.{List, [], _∷_, _++_, append-assoc, flatMap, map}
 use mathlib.Core.Option.{Option, none, some}
 use native.Mathlib.Omega.{arith}
-use native.Mathlib.Decide.{decLt}
-use lib.ListN.{length, getD, drop, replicate, length-append, length-drop, List·getD-eq-default}
+use lib.ListN.{length, getD, drop, replicate, length-append, length-drop}
 use lib.Dec.{eqb}
 use borrow.Author.Tests.{le-leb, eq-eqb, ne-eqb, eqb-true, eqb-false}
-use Rattle.base.specs.Lists.{All, pad}
-use Rattle.base.proofs.Lists.{getD-pad, length-pad}
-use Rattle.event_log.specs.Log.{Values, Log, eventAt}
+use Rattle.machine.proofs.Walk.{clauses-exist}
+use Rattle.base.specs.Lists.{All}
+use Rattle.event_log.specs.Log.{Values, Log, eventAt, field}
 use Rattle.event_log.specs.declared.Event.{Event}
 use Rattle.event_log.specs.inner.Loading.{loadedAt, Leads}
+use Rattle.event_log.proofs.Fields.{value-shown}
 use Rattle.formula.specs.Formula.{Clause, TEST, TESTV, BIND, GATHER, Expr, Step, Formula}
 use Rattle.formula.specs.Encode.{CLAUSE, encodeClause}
 use Rattle.formula.specs.Correct.{Exists, Correct}
 use Rattle.formula.specs.Lookup.{stepAt}
 use Rattle.machine.specs.Configuration.{listOf, addTo}
-use Rattle.machine.specs.Firing.{field, gatherAll}
+use Rattle.machine.specs.Firing.{gatherAll}
 use Rattle.machine.specs.inner.Along.{Standing, stepTo, step, along}
 use Rattle.machine.proofs.Gathering.{added, list-add-same, list-add-other}
 use Rattle.machine.proofs.Along.{added-once, length-step, short-step}
 use Rattle.machine_code.specs.inner.Bytes.{widthOf, offsetOf}
 use Rattle.machine_code.proofs.WalkOnBytes.{byte-from, first-byte, drop-more, width-encode, clauses-length}
-use Rattle.machine_code.proofs.FiringOnBytes.{StepAt, guardBytes, inside, target-byte, behind-step, parts-exist, clauses-exist}
+use Rattle.machine_code.proofs.FiringOnBytes.{StepAt, guardBytes, inside, target-byte, behind-step, parts-exist}
 use Rattle.machine_code.proofs.SameMachine.{StepThere, Charted}
 use Rattle.slots.specs.inner.Threads.{entryOf}
 use Rattle.lists.specs.inner.Words.{Holds, addIn, gatherIn, gatherFrom, gatherStep, entryIn, targetIn, readBack}
@@ -147,16 +147,6 @@ step-holds fields f at s h values e same ls l short w =
       length-append (flatMap encodeClause (s .clauses)) (guardBytes (s .guard) ++ h .after),
     )) (λ v k. omega (arith, short v k, added-once e (replicate 4 false) (s .clauses) v (h .fits .once) k)) w
 
--- an event's fields, as the code holds them
-pub padded : (x v : List ℕ) → x ≡ pad 8 0 v → length v ≤ 8 → (i : ℕ) → field x i ≡ field v i
-padded x v e h i = go (decLt i 8)
-  where
-    go : Dec (i < 8) → field x i ≡ field v i
-    go (yes p) = rw e (getD-pad 8 0 v i p)
-    go (no p) =
-        let a : getD x i 0 ≡ 0 = rw e (List·getD-eq-default (pad 8 0 v) 0 (omega (arith, length-pad 8 0 v))) in
-        a ∙ sym (List·getD-eq-default v 0 (omega arith))
-
 -- A correct log's bytes with the table of its events, and a correct formula's with the table of its steps.
 module _ (log : Log) (formula : Formula) (b places : List ℕ) (f table : List ℕ) (leads : Leads b places log)
     (widths : (n : ℕ) → n < length (log .events) → length ((eventAt log n) .values) ≤ 8) (correct : Correct (length (log .fields)) formula)
@@ -164,9 +154,7 @@ module _ (log : Log) (formula : Formula) (b places : List ℕ) (f table : List �
   -- what is loaded has the event's fields
   loaded-fields : (n : ℕ) → n < length (log .events) → (g : ℕ)
       → getD ((loadedAt b (length (log .fields)) (getD places n 0)) .event .values) g 0 ≡ field ((eventAt log n) .values) g
-  loaded-fields n h g =
-      padded ((loadedAt b (length (log .fields)) (getD places n 0)) .event .values) ((eventAt log n) .values) (ap (λ (e : Event). e .values) (leads n h))
-      (widths n h) g
+  loaded-fields n h g = ap (λ (e : Event). getD (e .values) g 0) (leads n h) ∙ value-shown ((eventAt log n) .values) (widths n h) g
 
   -- one word of the trail
   word-holds : (p : Standing) (w : ℕ) (l : List ℕ) → w / 8 < length (log .events) → ((v : ℕ) → v < 4 → length (listOf (p .lists) v) < 32) → Holds (p .lists) l

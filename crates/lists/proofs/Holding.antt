@@ -12,10 +12,9 @@ use borrow.Author.Tests.{lt-ltb, eqb-true, eqb-false, eq-eqb}
 use Rattle.base.specs.Lists.{sameList}
 use Rattle.base.proofs.Lists.{replicate-at}
 use Rattle.base.proofs.Same.{list-equal, list-same}
-use Rattle.event_log.specs.Log.{Values}
+use Rattle.event_log.specs.Log.{Values, field}
 use Rattle.machine.specs.Configuration.{listOf, addTo}
 use Rattle.machine.specs.Guard.{among}
-use Rattle.machine.specs.Firing.{field}
 use Rattle.machine.specs.inner.Along.{IsFresh}
 use Rattle.machine.proofs.Gathering.{list-add-same, list-add-other}
 use Rattle.lists.specs.inner.Words.{Holds, addIn, meets, FreshIs}

@@ -1,5 +1,6 @@
-// Runs the log reader on the bench's log L, cut at every byte and with every byte set to 0, 1, 2, 4 and 255, and prints each
-// answer: the file, number and place of a refusal, or an accepted log's numbers of fields and events.
+// Runs the log reader on the bench's log L, cut at every byte and with every byte set to 0, 1, 2, 4 and 255, on a log that lacks
+// a time, cut and with every byte set to these and 3, and on small logs with absent fields, and prints each answer: the file, number
+// and place of a refusal, or an accepted log's numbers of fields and events.
 use libc::STDOUT_FILENO;
 use refusal::Acceptance;
 
@@ -68,7 +69,24 @@ fn bench() -> [u8; 23] {
     ]
 }
 
-fn main() {
+// A trip at 500, one whose time is absent, an open at 520 with both bits set.
+const LACKING: [u8; 34] = *b"\x01\x01\x01\x00\
+    \x02\x00\x00\x01\xF4\x00\x00\x00\x01\
+    \x03\x02\x00\x00\x00\x00\x00\x00\x00\x01\
+    \x03\x03\x00\x00\x02\x08\x00\x00\x00\x02\
+    \x00";
+
+// LACKING with one byte set.
+fn show_lacking_set(l: [u8; 34], at: usize, b: u8) {
+    if at < 34 {
+        let mut d = l;
+        d[at] = b;
+        show(&d);
+    }
+}
+
+// The bench's log cut, and with every byte set.
+fn show_bench() {
     let l = bench();
     for n in 0..24 {
         show(&l[..n]);
@@ -80,4 +98,57 @@ fn main() {
         show_set(l, at, 4);
         show_set(l, at, 255);
     }
+}
+
+// LACKING cut, and with every byte set.
+fn show_lacking() {
+    let l = LACKING;
+    for n in 0..35 {
+        show(&l[..n]);
+    }
+    for at in 0..34 {
+        show_lacking_set(l, at, 0);
+        show_lacking_set(l, at, 1);
+        show_lacking_set(l, at, 2);
+        show_lacking_set(l, at, 3);
+        show_lacking_set(l, at, 4);
+        show_lacking_set(l, at, 255);
+    }
+}
+
+// Bits and values of one field that may not be there, and a cut.
+fn show_bits() {
+    show(b"\x01\x00\x03\x00\x00\x00\x00\x00\x00");
+    show(b"\x01\x00\x03\x02\x00\x00\x00\x00\x00");
+    show(b"\x01\x00\x03\x80\x00\x00\x00\x00\x00");
+    show(b"\x01\x00\x03\x00\x00\x00\x00\x01\x00");
+    show(b"\x01\x00\x03\x02\x00\x00\x00");
+}
+
+// A rising field across absent times: equal, then smaller than the last present one; a FIELD behind; a bit beyond and a fall.
+fn show_falls() {
+    show(
+        b"\x01\x01\
+        \x03\x01\x00\x00\x00\x05\x03\x00\x00\x00\x00\x00\x03\x01\x00\x00\x00\x05\
+        \x00",
+    );
+    show(
+        b"\x01\x01\
+        \x03\x01\x00\x00\x00\x05\x03\x00\x00\x00\x00\x00\x03\x01\x00\x00\x00\x04\
+        \x00",
+    );
+    show(
+        b"\x01\x01\
+        \x02\x00\x00\x00\x05\x03\x00\x00\x00\x00\x00\x03\x00\x00\x00\x00\x00\x02\x00\x00\x00\x04\
+        \x00",
+    );
+    show(b"\x01\x01\x03\x00\x00\x00\x00\x00\x01\x01\x00");
+    show(b"\x01\x01\x02\x00\x00\x00\x05\x03\x03\x00\x00\x00\x04\x00");
+}
+
+fn main() {
+    show_bench();
+    show_lacking();
+    show_bits();
+    show_falls();
 }

@@ -8,12 +8,12 @@ use mathlib.Core.Option.{Option, some}
 use native.Mathlib.Omega.{arith}
 use lib.Dec.{eqb}
 use borrow.Author.Tests.{eqb-true, eqb-false, eq-eqb}
-use Rattle.event_log.specs.Log.{Values}
+use Rattle.event_log.specs.Log.{Values, present, field}
 use Rattle.formula.specs.Formula.{Operator, Clause, TEST, TESTV, BIND, GATHER, Step}
 use Rattle.machine.specs.Configuration.{Config}
 use Rattle.machine.specs.inner.Valid.{Valid}
 use Rattle.machine.specs.Guard.{guardHolds}
-use Rattle.machine.specs.Firing.{holds, field, valueOf, isHeld, bindAll, leave, passes, allPass, fires}
+use Rattle.machine.specs.Firing.{holds, valueOf, isHeld, bindAll, leave, passes, allPass, fires}
 use Rattle.machine.specs.Expiry.{firstBind}
 use Rattle.base.proofs.Tests.{and-left, and-right, and-true}
 use Rattle.machine.proofs.Binding.{bind-keeps, bind-first, taken}
@@ -22,9 +22,17 @@ use Rattle.machine.proofs.Binding.{bind-keeps, bind-first, taken}
 abbrev Has : List Clause → Clause → Type 0
 Has ks k = List·Memᴰ k ks
 
+-- the field that a clause reads
+abbrev pub fieldOf : Clause → ℕ
+fieldOf (TEST f o x) = f
+fieldOf (TESTV f o v) = f
+fieldOf (BIND f v) = f
+fieldOf (GATHER f v) = f
+
 -- "A step fires on an event if every TEST holds, every TESTV holds against values held before, every BIND agrees with a value
--- held before or bound by another BIND of the step, and the guard is nonzero"
+-- held before or bound by another BIND of the step, and the guard is nonzero"; "A TEST, TESTV, BIND or GATHER of an absent field keeps the step from firing"
 pub record Firing (c : Config) (s : Step) (e : Values) : Type 0 where
+  pub there : (k : Clause) → List·Memᴰ k (s .clauses) → present e (fieldOf k) ≡ true
   pub tests : (f : ℕ) (o : Operator) (x : ℕ) → List·Memᴰ (TEST f o x) (s .clauses) → holds o (field e f) x ≡ true
   pub testvs : (f : ℕ) (o : Operator) (v : ℕ) → List·Memᴰ (TESTV f o v) (s .clauses) → holds o (field e f) (valueOf c v) ≡ true
   pub with-held : (f v : ℕ) → List·Memᴰ (BIND f v) (s .clauses) → isHeld c v ≡ true → field e f ≡ valueOf c v
@@ -80,6 +88,12 @@ first-of (BIND g u ∷ ks) f v m = go (first-of ks f v) (eqb u v) refl
         let ne : u ≡ v → ⊥ = eqb-false u v q in
         past (BIND g u) ks v (rw q) (ih (behind (BIND g u) ks f v (λ (p : BIND f v ≡ BIND g u). let r : u ≡ v = cc in ne r) m))
 
+passes-there : (c d : Config) (e : Values) (k : Clause) → passes c d e k ≡ true → present e (fieldOf k) ≡ true
+passes-there c d e (TEST f o x) h = and-left (present e f) _ h
+passes-there c d e (TESTV f o v) h = and-left (present e f) _ h
+passes-there c d e (BIND f v) h = and-left (present e f) _ h
+passes-there c d e (GATHER f v) h = h
+
 -- A step that fires meets every condition of the paper.
 pub fires-means : (c : Config) (s : Step) (e : Values) → fires c s e ≡ true → Firing c s e
 unfolding fires leave
@@ -87,10 +101,11 @@ fires-means c s e h =
     let d = leave c s e in
     let each = all-each c d e (s .clauses) (and-left (allPass c d e (s .clauses)) (guardHolds d (s .guard)) h) in
     let bound : (f v : ℕ) → Has (s .clauses) (BIND f v) → field e f ≡ valueOf (bindAll c e (s .clauses)) v =
-    λ f v m. eqb-true (field e f) (valueOf d v) (each (BIND f v) m) in
+    λ f v m. eqb-true (field e f) (valueOf d v) (and-right (present e f) _ (each (BIND f v) m)) in
     record {
-      tests = λ f o x m. each (TEST f o x) m;
-      testvs = λ f o v m. each (TESTV f o v) m;
+      there = λ k m. passes-there c d e k (each k m);
+      tests = λ f o x m. and-right (present e f) _ (each (TEST f o x) m);
+      testvs = λ f o v m. and-right (present e f) _ (each (TESTV f o v) m);
       with-held = λ f v m t. bound f v m ∙ bind-keeps c e (s .clauses) v t .value-kept;
       with-bound = λ f g v m n. bound f v m ∙ sym (bound g v n);
       guard = and-right (allPass c d e (s .clauses)) (guardHolds d (s .guard)) h;
@@ -115,7 +130,8 @@ means-fires states c s e valid below h = and-true (allPass c d e (s .clauses)) (
         h .with-bound f (r .from) v m (r .there) ∙ sym (p ∙ ap (λ (o : Option ℕ). taken e (valueOf c v) o) (r .found))
 
     pass : (k : Clause) → Has (s .clauses) k → passes c d e k ≡ true
-    pass (TEST f o x) m = h .tests f o x m
-    pass (TESTV f o v) m = h .testvs f o v m
-    pass (BIND f v) m = eq-eqb (field e f) (valueOf d v) (agrees f v m (isHeld c v) refl)
-    pass (GATHER f v) m = refl
+    pass (TEST f o x) m = and-true (present e f) _ (h .there (TEST f o x) m) (h .tests f o x m)
+    pass (TESTV f o v) m = and-true (present e f) _ (h .there (TESTV f o v) m) (h .testvs f o v m)
+    pass (BIND f v) m =
+        and-true (present e f) _ (h .there (BIND f v) m) (eq-eqb (field e f) (valueOf d v) (agrees f v m (isHeld c v) refl))
+    pass (GATHER f v) m = h .there (GATHER f v) m

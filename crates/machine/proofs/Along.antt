@@ -10,7 +10,7 @@ use lib.Seq.{getD-set-same, getD-set-other}
 use lib.Dec.{eqb}
 use borrow.Author.Tests.{eqb-true, eqb-false}
 use Rattle.base.proofs.Lists.{replicate-at}
-use Rattle.event_log.specs.Log.{Values, Log, eventAt}
+use Rattle.event_log.specs.Log.{Values, Log, eventAt, field}
 use Rattle.formula.specs.Formula.{Formula, State, ordinary, Step, Clause, TEST, TESTV, BIND, GATHER}
 use Rattle.formula.specs.Correct.{Correct, StateFits, StepFits, Once}
 use Rattle.formula.specs.Unbound.{stepsOf}
@@ -19,7 +19,7 @@ use Rattle.formula.proofs.Steps.{all-some}
 use Rattle.base.specs.Lists.{All}
 use Rattle.runs.specs.Run.{Entry, Trail, Follow}
 use Rattle.machine.specs.Configuration.{Config, start, listOf}
-use Rattle.machine.specs.Firing.{field, leave}
+use Rattle.machine.specs.Firing.{leave}
 use Rattle.machine.specs.Machine.{fireAt, machine}
 use Rattle.machine.specs.inner.Along.{Standing, standing, stepTo, step, along, first, gathered}
 use Rattle.machine.proofs.Gathering.{added, list-after, length-gather-all}

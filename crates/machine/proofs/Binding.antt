@@ -9,10 +9,10 @@ use lib.ListN.{length, set, length-set}
 use lib.Seq.{getD-set-same, getD-set-other}
 use lib.Dec.{eqb}
 use borrow.Author.Tests.{eqb-true, eqb-false}
-use Rattle.event_log.specs.Log.{Values}
+use Rattle.event_log.specs.Log.{Values, field}
 use Rattle.formula.specs.Formula.{Clause, TEST, TESTV, BIND, GATHER}
 use Rattle.machine.specs.Configuration.{Config}
-use Rattle.machine.specs.Firing.{field, valueOf, isHeld, hold, bindAll}
+use Rattle.machine.specs.Firing.{valueOf, isHeld, hold, bindAll}
 use Rattle.machine.specs.Expiry.{firstBind}
 
 -- the configuration with v holding x

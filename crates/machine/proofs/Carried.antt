@@ -10,13 +10,13 @@ use lib.Dec.{eqb}
 use borrow.Author.Tests.{eqb-true, eqb-false, eq-eqb, ne-eqb}
 use Rattle.base.specs.Lists.{All}
 use Rattle.base.specs.Mask.{bit}
-use Rattle.event_log.specs.Log.{Values}
+use Rattle.event_log.specs.Log.{Values, field}
 use Rattle.formula.specs.Formula.{Clause, TEST, TESTV, BIND, GATHER}
 use Rattle.formula.specs.Encode.{CLAUSE}
 use Rattle.formula.specs.Correct.{Exists, Once}
 use Rattle.machine.specs.Configuration.{listOf, addTo}
 use Rattle.machine.specs.Guard.{sum, among, different}
-use Rattle.machine.specs.Firing.{field, gatherAll}
+use Rattle.machine.specs.Firing.{gatherAll}
 use Rattle.machine.specs.inner.Along.{tallies, tallyAdd, IsFresh, carryAll}
 use Rattle.machine.proofs.Gathering.{total-append, list-add-other}
 

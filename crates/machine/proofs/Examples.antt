@@ -6,9 +6,9 @@ use mathlib.Core.List.{List, [], _∷_}
 use mathlib.Core.Option.{none, some}
 use native.Mathlib.Omega.{arith}
 use lib.ListN.{getD, replicate}
-use Rattle.event_log.specs.Log.{plain, rising as risingField, Log, eventAt}
-use Rattle.event_log.specs.Correct as LogCorrect
-use Rattle.formula.specs.Formula.{equal, less, atmost, Clause, TEST, TESTV, BIND, GATHER, Step, ordinary, accept, Formula}
+use Rattle.event_log.specs.Log.{plain, rising as risingField, present, field, Log, eventAt}
+use Rattle.event_log.specs.Latest.{over, latest}
+use Rattle.formula.specs.Formula.{equal, unequal, less, atmost, Clause, TEST, TESTV, BIND, GATHER, Step, ordinary, accept, Formula}
 use Rattle.formula.specs.Formula.{CONST, VAR, COUNT, SUM, LENGTH, DIFFERENT, Expr, LEAF}
 use Rattle.formula.specs.Formula.{LESS, ATMOST, EQUAL, OR, IF}
 use Rattle.formula.specs.Unbound.{stepsOf}
@@ -16,7 +16,7 @@ use Rattle.formula.specs.Lookup.{stepAt}
 use Rattle.machine.specs.Configuration.{Config, start}
 use Rattle.machine.specs.Guard.{value}
 use Rattle.machine.specs.Firing.{hold, leave, fires, fire}
-use Rattle.machine.specs.Expiry.{rising, falling, expired}
+use Rattle.machine.specs.Expiry.{rising, falling, known, expired}
 use Rattle.machine.specs.Machine.{fireAt, expiredAt, final, accepting}
 use Rattle.machine.proofs.Machine.{Premises}
 
@@ -33,35 +33,35 @@ abbrev guarded : ℕ → List Clause → Expr → Step
 guarded t ks g = record { target = t; clauses = ks; guard = some g }
 
 -- "a step with time less than 600 is hopeless after 600, not after 599"
-pub late-600 : (c : Config) (t : ℕ) → expired (risingField ∷ []) c (bare t (TEST 0 less 600 ∷ [])) (600 ∷ []) ≡ true
+pub late-600 : (c : Config) (t : ℕ) → expired (risingField ∷ []) c (bare t (TEST 0 less 600 ∷ [])) (some 600 ∷ []) ≡ true
 unfolding expired
 late-600 c t = refl
 
-pub not-late-599 : (c : Config) (t : ℕ) → expired (risingField ∷ []) c (bare t (TEST 0 less 600 ∷ [])) (599 ∷ []) ≡ false
+pub not-late-599 : (c : Config) (t : ℕ) → expired (risingField ∷ []) c (bare t (TEST 0 less 600 ∷ [])) (some 599 ∷ []) ≡ false
 unfolding expired
 not-late-599 c t = refl
 
 -- on a plain field a false TEST with less is not hopeless
-pub plain-600 : (c : Config) (t : ℕ) → expired (plain ∷ []) c (bare t (TEST 0 less 600 ∷ [])) (600 ∷ []) ≡ false
+pub plain-600 : (c : Config) (t : ℕ) → expired (plain ∷ []) c (bare t (TEST 0 less 600 ∷ [])) (some 600 ∷ []) ≡ false
 unfolding expired
 plain-600 c t = refl
 
 -- at most 600: not hopeless after 600, hopeless after 601
-pub atmost-600 : (c : Config) (t : ℕ) → expired (risingField ∷ []) c (bare t (TEST 0 atmost 600 ∷ [])) (600 ∷ []) ≡ false
+pub atmost-600 : (c : Config) (t : ℕ) → expired (risingField ∷ []) c (bare t (TEST 0 atmost 600 ∷ [])) (some 600 ∷ []) ≡ false
 unfolding expired
 atmost-600 c t = refl
 
-pub atmost-601 : (c : Config) (t : ℕ) → expired (risingField ∷ []) c (bare t (TEST 0 atmost 600 ∷ [])) (601 ∷ []) ≡ true
+pub atmost-601 : (c : Config) (t : ℕ) → expired (risingField ∷ []) c (bare t (TEST 0 atmost 600 ∷ [])) (some 601 ∷ []) ≡ true
 unfolding expired
 atmost-601 c t = refl
 
 -- an equal test that a rising field has passed is not hopeless
-pub equal-601 : (c : Config) (t : ℕ) → expired (risingField ∷ []) c (bare t (TEST 0 equal 600 ∷ [])) (601 ∷ []) ≡ false
+pub equal-601 : (c : Config) (t : ℕ) → expired (risingField ∷ []) c (bare t (TEST 0 equal 600 ∷ [])) (some 601 ∷ []) ≡ false
 unfolding expired
 equal-601 c t = refl
 
 -- TESTV is against the value held before (here none: 0), also where the step binds the variable
-pub testv-before : fire start (bare 1 (BIND 0 0 ∷ TESTV 0 equal 0 ∷ [])) (7 ∷ []) ≡ none
+pub testv-before : fire start (bare 1 (BIND 0 0 ∷ TESTV 0 equal 0 ∷ [])) (some 7 ∷ []) ≡ none
 unfolding fire fires leave hold start
 testv-before = refl
 
@@ -70,44 +70,44 @@ abbrev holding : ℕ → ℕ → List ℕ → Config
 holding s x counters = record { state = s; held = true ∷ replicate 7 false; values = x ∷ replicate 7 0; counters = counters; lists = replicate 4 [] }
 
 -- two BINDs of one variable fire with one value, and only then; one is added to the state being left
-pub binds-equal : fire start (bare 1 (BIND 0 0 ∷ BIND 1 0 ∷ [])) (7 ∷ 7 ∷ []) ≡ some (holding 1 7 (1 ∷ replicate 15 0))
+pub binds-equal : fire start (bare 1 (BIND 0 0 ∷ BIND 1 0 ∷ [])) (some 7 ∷ some 7 ∷ []) ≡ some (holding 1 7 (1 ∷ replicate 15 0))
 unfolding fire fires leave hold start
 binds-equal = refl
 
-pub binds-differ : fire start (bare 1 (BIND 0 0 ∷ BIND 1 0 ∷ [])) (7 ∷ 8 ∷ []) ≡ none
+pub binds-differ : fire start (bare 1 (BIND 0 0 ∷ BIND 1 0 ∷ [])) (some 7 ∷ some 8 ∷ []) ≡ none
 unfolding fire fires leave hold start
 binds-differ = refl
 
 -- a BIND of a held variable is compared with the value held
-pub held-differs : (s : ℕ) (counters : List ℕ) → fire (holding s 7 counters) (bare 1 (BIND 0 0 ∷ [])) (8 ∷ []) ≡ none
+pub held-differs : (s : ℕ) (counters : List ℕ) → fire (holding s 7 counters) (bare 1 (BIND 0 0 ∷ [])) (some 8 ∷ []) ≡ none
 unfolding fire fires leave hold
 held-differs s counters = refl
 
 -- the guard reads the values after binding, and the counters after adding one to the state being left
-pub guard-after-binding : fires start (guarded 1 (BIND 0 0 ∷ []) (EQUAL (LEAF (VAR 0)) (LEAF (CONST 7)))) (7 ∷ []) ≡ true
+pub guard-after-binding : fires start (guarded 1 (BIND 0 0 ∷ []) (EQUAL (LEAF (VAR 0)) (LEAF (CONST 7)))) (some 7 ∷ []) ≡ true
 unfolding fires leave hold start value
 guard-after-binding = refl
 
-pub left-counted : fires start (guarded 1 [] (EQUAL (LEAF (COUNT 0)) (LEAF (CONST 1)))) (7 ∷ []) ≡ true
+pub left-counted : fires start (guarded 1 [] (EQUAL (LEAF (COUNT 0)) (LEAF (CONST 1)))) (some 7 ∷ []) ≡ true
 unfolding fires leave hold start value
 left-counted = refl
 
-pub entered-not-counted : fires start (guarded 1 [] (LEAF (COUNT 1))) (7 ∷ []) ≡ false
+pub entered-not-counted : fires start (guarded 1 [] (LEAF (COUNT 1))) (some 7 ∷ []) ≡ false
 unfolding fires leave hold start value
 entered-not-counted = refl
 
 -- falling includes both: a guard of counters and constants that is 0 with the step's own counter makes the step hopeless at once
-pub own-counter : expired (risingField ∷ []) start (guarded 1 [] (LESS (LEAF (COUNT 0)) (LEAF (CONST 1)))) (7 ∷ []) ≡ true
-unfolding expired leave hold start value falling rising
+pub own-counter : expired (risingField ∷ []) start (guarded 1 [] (LESS (LEAF (COUNT 0)) (LEAF (CONST 1)))) (some 7 ∷ []) ≡ true
+unfolding expired leave hold start value falling rising known
 own-counter = refl
 
 -- time less than 10 by a guard, on a variable bound to the rising time: hopeless after 10, not after 9
-pub guard-late : expired (risingField ∷ []) start (guarded 1 (BIND 0 0 ∷ []) (LESS (LEAF (VAR 0)) (LEAF (CONST 10)))) (10 ∷ []) ≡ true
-unfolding expired leave hold start value falling rising
+pub guard-late : expired (risingField ∷ []) start (guarded 1 (BIND 0 0 ∷ []) (LESS (LEAF (VAR 0)) (LEAF (CONST 10)))) (some 10 ∷ []) ≡ true
+unfolding expired leave hold start value falling rising known
 guard-late = refl
 
-pub guard-not-late : expired (risingField ∷ []) start (guarded 1 (BIND 0 0 ∷ []) (LESS (LEAF (VAR 0)) (LEAF (CONST 10)))) (9 ∷ []) ≡ false
-unfolding expired leave hold start value falling rising
+pub guard-not-late : expired (risingField ∷ []) start (guarded 1 (BIND 0 0 ∷ []) (LESS (LEAF (VAR 0)) (LEAF (CONST 10)))) (some 9 ∷ []) ≡ false
+unfolding expired leave hold start value falling rising known
 guard-not-late = refl
 
 -- a variable not held rises by the step's first BIND of it only
@@ -119,11 +119,11 @@ first-bind-plain = refl
 abbrev late-enough : Step
 late-enough = guarded 1 (BIND 0 0 ∷ []) (IF (LESS (LEAF (VAR 0)) (LEAF (CONST 10))) (LEAF (CONST 0)) (LEAF (CONST 1)))
 
-pub if-not-expired : expired (risingField ∷ []) start late-enough (9 ∷ []) ≡ false
-unfolding expired leave hold start value falling rising
+pub if-not-expired : expired (risingField ∷ []) start late-enough (some 9 ∷ []) ≡ false
+unfolding expired leave hold start value falling rising known
 if-not-expired = refl
 
-pub if-fires-later : fires start late-enough (10 ∷ []) ≡ true
+pub if-fires-later : fires start late-enough (some 10 ∷ []) ≡ true
 unfolding fires leave hold start value
 if-fires-later = refl
 
@@ -147,7 +147,7 @@ unfolding value
 lists-read = (refl, refl)
 
 -- the guard reads the list after the step
-pub guard-after-gathering : fires (gathering (3 ∷ [])) (guarded 1 (GATHER 0 0 ∷ []) (EQUAL (LEAF (SUM 0)) (LEAF (CONST 7)))) (4 ∷ []) ≡ true
+pub guard-after-gathering : fires (gathering (3 ∷ [])) (guarded 1 (GATHER 0 0 ∷ []) (EQUAL (LEAF (SUM 0)) (LEAF (CONST 7)))) (some 4 ∷ []) ≡ true
 unfolding fires leave value
 guard-after-gathering = refl
 
@@ -156,31 +156,105 @@ abbrev few : Step
 few = guarded 1 (GATHER 0 0 ∷ []) (ATMOST (LEAF (SUM 0)) (LEAF (CONST 6)))
 
 -- of a rising field: hopeless where the sum would pass the bound, not before
-pub sum-not-late : expired (risingField ∷ []) (gathering (3 ∷ [])) few (3 ∷ []) ≡ false
-unfolding expired leave value falling rising
+pub sum-not-late : expired (risingField ∷ []) (gathering (3 ∷ [])) few (some 3 ∷ []) ≡ false
+unfolding expired leave value falling rising known
 sum-not-late = refl
 
-pub sum-late : expired (risingField ∷ []) (gathering (3 ∷ [])) few (4 ∷ []) ≡ true
-unfolding expired leave value falling rising
+pub sum-late : expired (risingField ∷ []) (gathering (3 ∷ [])) few (some 4 ∷ []) ≡ true
+unfolding expired leave value falling rising known
 sum-late = refl
 
 -- of a plain field: never
-pub sum-plain : (x : ℕ) → expired (plain ∷ []) (gathering (3 ∷ [])) few (x ∷ []) ≡ false
-unfolding expired leave value falling rising
+pub sum-plain : (x : ℕ) → expired (plain ∷ []) (gathering (3 ∷ [])) few (some x ∷ []) ≡ false
+unfolding expired leave value falling rising known
 sum-plain x = refl
 
 -- a length is both; the number of different values is neither where the step gathers
-pub length-late : expired (plain ∷ []) (gathering (3 ∷ [])) (guarded 1 (GATHER 0 0 ∷ []) (LESS (LEAF (LENGTH 0)) (LEAF (CONST 2)))) (4 ∷ []) ≡ true
-unfolding expired leave value falling rising
+pub length-late : expired (plain ∷ []) (gathering (3 ∷ [])) (guarded 1 (GATHER 0 0 ∷ []) (LESS (LEAF (LENGTH 0)) (LEAF (CONST 2)))) (some 4 ∷ []) ≡ true
+unfolding expired leave value falling rising known
 length-late = refl
 
-pub different-open : expired (risingField ∷ []) (gathering (3 ∷ [])) (guarded 1 (GATHER 0 0 ∷ []) (LESS (LEAF (DIFFERENT 0)) (LEAF (CONST 2)))) (4 ∷ []) ≡ false
-unfolding expired leave value falling rising
+pub different-open : expired (risingField ∷ []) (gathering (3 ∷ [])) (guarded 1 (GATHER 0 0 ∷ []) (LESS (LEAF (DIFFERENT 0)) (LEAF (CONST 2)))) (some 4 ∷ []) ≡ false
+unfolding expired leave value falling rising known
 different-open = refl
+
+-- "A TEST, TESTV, BIND or GATHER of an absent field keeps the step from firing", also with unequal
+pub absent-test : fires start (bare 1 (TEST 0 equal 0 ∷ [])) (none ∷ []) ≡ false
+unfolding fires leave hold start
+absent-test = refl
+
+pub absent-unequal : fires start (bare 1 (TEST 0 unequal 5 ∷ [])) (none ∷ []) ≡ false
+unfolding fires leave hold start
+absent-unequal = refl
+
+pub absent-testv : fires start (bare 1 (TESTV 0 equal 0 ∷ [])) (none ∷ []) ≡ false
+unfolding fires leave hold start
+absent-testv = refl
+
+pub absent-bind : fires start (bare 1 (BIND 0 0 ∷ [])) (none ∷ []) ≡ false
+unfolding fires leave hold start
+absent-bind = refl
+
+pub absent-gather : fires start (bare 1 (GATHER 0 0 ∷ [])) (none ∷ []) ≡ false
+unfolding fires leave hold start
+absent-gather = refl
+
+-- "where a field has none, a test of it .. doesn't make the step hopeless": below 0 is never, yet hopeless only once a time has arrived
+pub below-none : (c : Config) (t : ℕ) → expired (risingField ∷ []) c (bare t (TEST 0 less 0 ∷ [])) (none ∷ []) ≡ false
+unfolding expired
+below-none c t = refl
+
+pub below-some : (c : Config) (t : ℕ) → expired (risingField ∷ []) c (bare t (TEST 0 less 0 ∷ [])) (some 0 ∷ []) ≡ true
+unfolding expired
+below-some c t = refl
+
+-- "or a guard naming a variable or sum that would take its value": bound by the step; held before; in the branch of an IF that is not taken
+abbrev below-zero : Expr
+below-zero = LESS (LEAF (VAR 0)) (LEAF (CONST 0))
+
+pub bound-none : expired (risingField ∷ []) start (guarded 1 (BIND 0 0 ∷ []) below-zero) (none ∷ []) ≡ false
+unfolding expired leave hold start value falling rising known
+bound-none = refl
+
+pub held-none : (s : ℕ) (counters : List ℕ) → expired (risingField ∷ []) (holding s 7 counters) (guarded 1 (BIND 0 0 ∷ []) below-zero) (none ∷ []) ≡ true
+unfolding expired leave hold value falling rising known
+held-none s counters = refl
+
+pub branch-none : expired (risingField ∷ []) start (guarded 1 (BIND 0 0 ∷ []) (IF (LEAF (CONST 1)) (LEAF (CONST 0)) below-zero)) (none ∷ []) ≡ false
+unfolding expired leave hold start value falling rising known
+branch-none = refl
+
+pub branch-some : expired (risingField ∷ []) start (guarded 1 (BIND 0 0 ∷ []) (IF (LEAF (CONST 1)) (LEAF (CONST 0)) below-zero)) (some 3 ∷ []) ≡ true
+unfolding expired leave hold start value falling rising known
+branch-some = refl
+
+-- a sum that the step gathers into, and one that it does not; "a length counts the value all the same"
+pub sum-none : expired (risingField ∷ []) (gathering (7 ∷ [])) few (none ∷ []) ≡ false
+unfolding expired leave value falling rising known
+sum-none = refl
+
+pub other-sum : expired (risingField ∷ []) (gathering (7 ∷ [])) (guarded 1 (GATHER 0 1 ∷ []) (ATMOST (LEAF (SUM 0)) (LEAF (CONST 6)))) (none ∷ []) ≡ true
+unfolding expired leave value falling rising known
+other-sum = refl
+
+pub length-none : expired (plain ∷ []) (gathering (3 ∷ [])) (guarded 1 (GATHER 0 0 ∷ []) (LESS (LEAF (LENGTH 0)) (LEAF (CONST 2)))) (none ∷ []) ≡ true
+unfolding expired leave value falling rising known
+length-none = refl
+
+-- "judged by the last present value up to n": a time of 600, then an event without one
+abbrev gap : Log
+gap = record { fields = risingField ∷ []; events = record { values = some 600 ∷ [] } ∷ record { values = none ∷ [] } ∷ [] }
+
+abbrev before-600 : Formula
+before-600 = record { tied = []; states = record { kind = ordinary; steps = bare 0 (TEST 0 less 600 ∷ []) ∷ [] } ∷ [] }
+
+pub late-in-gap : expiredAt gap before-600 start 0 1 ≡ true
+unfolding expiredAt expired stepAt stepsOf start latest over eventAt
+late-in-gap = refl
 
 -- the bench's log L and formula F: time and code, trip and open
 abbrev pub L : Log
-L = record { fields = risingField ∷ plain ∷ []; events = record { values = 500 ∷ 1 ∷ [] } ∷ record { values = 500 ∷ 2 ∷ [] } ∷ [] }
+L = record { fields = risingField ∷ plain ∷ []; events = record { values = some 500 ∷ some 1 ∷ [] } ∷ record { values = some 500 ∷ some 2 ∷ [] } ∷ [] }
 
 abbrev pub F : Formula
 F = record {
@@ -212,9 +286,15 @@ pub no-second-step-expired : expiredAt L F start 1 0 ≡ true
 unfolding expiredAt stepAt stepsOf start
 no-second-step-expired = refl
 
+first : (n : ℕ) → n < 2 → field (latest L n) 0 ≤ field ((eventAt L n) .values) 0
+unfolding latest over eventAt
+first zero h = omega arith
+first (suc zero) h = omega arith
+first (suc (suc n)) h = absurd (omega arith)
+
 -- what the machine's laws need holds of L and F
 pub bench-premises : Premises L F
-unfolding final start LogCorrect.value eventAt
+unfolding final start
 bench-premises = record {
   recorded =
       record {
@@ -234,8 +314,8 @@ bench-premises = record {
     kinds-differ : plain ≡ risingField → ⊥
     kinds-differ q = let z : _≡_ {A = ℕ} 0 1 = cc in omega arith
 
-    rise : (n k : ℕ) → suc n < 2 → getD (L .fields) k plain ≡ risingField → LogCorrect.value L n k ≤ LogCorrect.value L (suc n) k
-    rise (suc n) k h r = absurd (omega arith)
-    rise zero zero h r = omega arith
-    rise zero (suc zero) h r = absurd (kinds-differ r)
-    rise zero (suc (suc k)) h r = absurd (kinds-differ r)
+    rise : (n k : ℕ) → n < 2 → getD (L .fields) k plain ≡ risingField → present ((eventAt L n) .values) k ≡ true
+        → field (latest L n) k ≤ field ((eventAt L n) .values) k
+    rise n zero h r p = first n h
+    rise n (suc zero) h r p = absurd (kinds-differ r)
+    rise n (suc (suc k)) h r p = absurd (kinds-differ r)

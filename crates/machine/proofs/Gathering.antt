@@ -10,11 +10,11 @@ use lib.ListN.{length, length-set, length-append, List·getD-eq-default}
 use lib.Seq.{getD-set-same, getD-set-other}
 use lib.Dec.{eqb}
 use borrow.Author.Tests.{eqb-true, eqb-false}
-use Rattle.event_log.specs.Log.{Kind, Values}
+use Rattle.event_log.specs.Log.{Kind, Values, field}
 use Rattle.formula.specs.Formula.{Clause, TEST, TESTV, BIND, GATHER}
 use Rattle.machine.specs.Configuration.{listOf, addTo}
 use Rattle.machine.specs.Guard.{total, sum}
-use Rattle.machine.specs.Firing.{field, gatherAll}
+use Rattle.machine.specs.Firing.{gatherAll}
 use Rattle.machine.specs.Expiry.{rises, gathers, gathersRising}
 use Rattle.base.proofs.Tests.{and-left, and-right}
 

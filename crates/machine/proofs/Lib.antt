@@ -6,8 +6,10 @@ pub mod Trend
 pub mod Expiry
 pub mod Machine
 pub mod Along
+pub mod Arrived
 pub mod Carried
 pub mod Walk
 pub mod Examples
 pub mod Agreement
 pub mod Premises
+pub mod AsBefore

@@ -1,6 +1,6 @@
 -- The machine of a correct log and a correct formula keeps the laws that the theory of runs asks for.
 use Prim.Native.Nat.{ℕ, zero, suc, _≤_, _<_}
-use mathlib.Core.Path.{_≡_, refl, sym, subst, _∙_}
+use mathlib.Core.Path.{_≡_, refl, sym, _∙_}
 use mathlib.Core.Bool.{Bool, true, false, true≢false, false≢true}
 use mathlib.Core.List.{List, [], _∷_}
 use mathlib.Core.Option.{Option, none, some}
@@ -13,11 +13,10 @@ use borrow.Author.Tests.{eqb-true, eqb-false}
 use Rattle.base.proofs.Lists.{replicate-at}
 use Rattle.formula.proofs.Steps.{all-some}
 use Rattle.base.specs.Lists.{All}
-use Rattle.event_log.specs.Log.{Kind, plain, rising, Values, Event, Log, noEvent, eventAt}
-use Rattle.event_log.specs.Correct.{value, Recorded}
+use Rattle.event_log.specs.Log.{Kind, plain, rising, Values, orZero, field, Event, Log, noEvent, eventAt}
+use Rattle.event_log.specs.Correct.{Recorded}
 use Rattle.event_log.specs.Latest.{latest}
-use Rattle.event_log.proofs.LastSeen.{latest-is}
-use Rattle.event_log.proofs.Rising.{never-falls-to}
+use Rattle.event_log.proofs.LastSeen.{latest-own, latest-stays, latest-grows}
 use Rattle.formula.specs.Formula.{Formula, State, ordinary, Step, Clause, TEST, TESTV, BIND, GATHER}
 use Rattle.formula.specs.Unbound.{stepsOf}
 use Rattle.formula.specs.Lookup.{stepAt}
@@ -25,7 +24,7 @@ use Rattle.runs.specs.inner.Laws.{Laws}
 use Rattle.machine.specs.Configuration.{Config, start}
 use Rattle.machine.specs.inner.Valid.{Valid}
 use Rattle.machine.specs.Guard.{total}
-use Rattle.machine.specs.Firing.{field, isHeld, hold, bindAll, leave, fires, fire}
+use Rattle.machine.specs.Firing.{isHeld, hold, bindAll, leave, fires, fire}
 use Rattle.machine.specs.Expiry.{isRising}
 use Rattle.machine.specs.Machine.{fireBy, fireAt, expiredBy, expiredAt, final, machine}
 use Rattle.machine.proofs.Configurations.{same-equal, equal-same, total-add-one, length-add-one}
@@ -86,7 +85,7 @@ valid-hold states c v x h k = go (isHeld c v) refl
 
 -- every value of the event fits a word
 abbrev Fits : Values → Type 0
-Fits e = All (λ v. v < 4294967296) e
+Fits e = All (λ (v : Option ℕ). orZero v < 4294967296) e
 
 valid-bind : (states : ℕ) (c : Config) (e : Values) (ks : List Clause) → Valid states c → Fits e → Valid states (bindAll c e ks)
 valid-bind states c e [] h k = h
@@ -94,7 +93,7 @@ valid-bind states c e (TEST f o x ∷ ks) h k = valid-bind states c e ks h k
 valid-bind states c e (TESTV f o v ∷ ks) h k = valid-bind states c e ks h k
 valid-bind states c e (GATHER f v ∷ ks) h k = valid-bind states c e ks h k
 valid-bind states c e (BIND f v ∷ ks) h k =
-    valid-bind states (hold c v (field e f)) e ks (valid-hold states c v (field e f) h (all-getD (λ y. y < 4294967296) e f 0 k (omega arith))) k
+    valid-bind states (hold c v (field e f)) e ks (valid-hold states c v (field e f) h (all-getD (λ (y : Option ℕ). orZero y < 4294967296) e f none k (omega arith))) k
 
 -- what a step leaves is valid
 pub valid-leave : (states : ℕ) (c : Config) (s : Step) (e : Values) → Valid states c → Fits e → states ≤ 16 → s .target < states → Valid states (leave c s e)
@@ -162,11 +161,12 @@ module _ (log : Log) (formula : Formula) (P : Premises log formula) where
   rising-kind plain h = absurd (false≢true h)
   rising-kind rising h = refl
 
-  -- rising fields grow from the values by which a step is judged to any later event
-  pub grow-to : (n m : ℕ) → n ≤ m → m < length (log .events) → Grows (log .fields) (latest log n) ((eventAt log m) .values)
-  unfolding value
-  grow-to n m h k f r =
-      rw (latest-is log (P .recorded) n (omega arith)) (never-falls-to log (P .recorded) f (rising-kind (getD (log .fields) f plain) r) n m h k)
+  -- the values by which a step is judged grow from event to event
+  grow-to : (n m : ℕ) → n ≤ m → m ≤ length (log .events) → Grows (log .fields) (latest log n) (latest log m)
+  grow-to n m h k = record {
+    stays = λ f. latest-stays log n m f h;
+    larger = λ f r. latest-grows log (P .recorded) f (rising-kind (getD (log .fields) f plain) r) n m h k;
+  }
 
   target-declared : (s k : ℕ) (t : Step) → stepAt formula s k ≡ some t → t .target < length (formula .states)
   unfolding stepAt stepsOf
@@ -189,12 +189,12 @@ module _ (log : Log) (formula : Formula) (P : Premises log formula) where
   unfolding expiredAt
   stable c k n m v h j e = go (stepAt formula (c .state) k) e
     where
-      grows : Grows (log .fields) (latest log n) (latest log m)
-      grows = subst (Grows (log .fields) (latest log n)) (sym (latest-is log (P .recorded) m j)) (grow-to n m h j)
+      grows : Grows (log .fields) (latest log (suc n)) (latest log (suc m))
+      grows = grow-to (suc n) (suc m) (omega arith) (omega arith)
 
-      go : (o : Option Step) → expiredBy (log .fields) o c (latest log n) ≡ true → expiredBy (log .fields) o c (latest log m) ≡ true
+      go : (o : Option Step) → expiredBy (log .fields) o c (latest log (suc n)) ≡ true → expiredBy (log .fields) o c (latest log (suc m)) ≡ true
       go none q = refl
-      go (some s) q = stable-step (log .fields) (latest log n) (latest log m) grows (length (formula .states)) c s v q
+      go (some s) q = stable-step (log .fields) (latest log (suc n)) (latest log (suc m)) grows (length (formula .states)) c s v q
 
   -- a step expired after n fires on no later event
   pub silent : (c : Config) (k n m : ℕ) → Valid (length (formula .states)) c → n < m → m < length (log .events) → expiredAt log formula c k n ≡ true
@@ -202,9 +202,11 @@ module _ (log : Log) (formula : Formula) (P : Premises log formula) where
   unfolding expiredAt fireAt
   silent c k n m v h j e = go (stepAt formula (c .state) k) e
     where
-      go : (o : Option Step) → expiredBy (log .fields) o c (latest log n) ≡ true → fireBy o c ((eventAt log m) .values) ≡ none
+      go : (o : Option Step) → expiredBy (log .fields) o c (latest log (suc n)) ≡ true → fireBy o c ((eventAt log m) .values) ≡ none
       go none q = refl
-      go (some s) q = silent-step (log .fields) (latest log n) ((eventAt log m) .values) (grow-to n m (omega arith) j) (length (formula .states)) c s v q
+      go (some s) q =
+          silent-step (log .fields) (latest log (suc n)) (latest log (suc m)) ((eventAt log m) .values) (grow-to (suc n) (suc m) (omega arith) (omega arith))
+          (latest-own log m) (length (formula .states)) c s v q
 
   -- The machine keeps every law that the search is exact by.
   unfoldable pub laws : Laws (machine log formula)

@@ -2,20 +2,26 @@
 use Prim.Native.Nat.{ℕ, _≤_, _<_}
 use mathlib.Core.Path.{_≡_, refl, sym, ap, _∙_}
 use mathlib.Core.Bool.{Bool, true, false, _&&_}
-use mathlib.Core.List.{List, [], _∷_}
+use mathlib.Core.List.{List, [], _∷_, _++_, map}
+use mathlib.Core.Option.{Option, none}
 use native.Mathlib.Omega.{arith}
 use native.Mathlib.Decide.{decLt}
-use lib.ListN.{length, List·getD-eq-default}
+use lib.ListN.{length, getD, List·getD-eq-default}
 use lib.Seq.{getD-set-same}
 use lib.Dec.{eqb}
-use Rattle.event_log.specs.Log.{Kind, Values}
-use Rattle.formula.specs.Formula.{Clause, TEST, TESTV, BIND, GATHER, Step}
+use Rattle.base.proofs.Tests.{both-ways}
+use Rattle.base.specs.Lists.{All}
+use Rattle.event_log.specs.Log.{Kind, Values, isThere, orZero, present, field}
+use Rattle.formula.specs.Formula.{Clause, TEST, TESTV, BIND, GATHER, Step, Expr}
+use Rattle.formula.specs.Encode.{CLAUSE, guardCommands}
+use Rattle.formula.specs.Correct.{Exists}
 use Rattle.machine.specs.Configuration.{Config, addTo}
 use Rattle.machine.specs.Guard.{guardHolds}
-use Rattle.machine.specs.Firing.{holds, field, valueOf, isHeld, hold, bind, bindAll, gatherAll, leave, passes, allPass, fires, fire}
-use Rattle.machine.specs.Expiry.{anyPastDue, expired}
+use Rattle.machine.specs.Firing.{holds, valueOf, isHeld, hold, bind, bindAll, gatherAll, leave, passes, allPass, fires, fire}
+use Rattle.machine.specs.Expiry.{anyPastDue, guardKnown, expired}
 use Rattle.machine.specs.inner.Walk.{walk}
 use Rattle.machine.proofs.Binding.{hold-held, hold-new, hold-shape, bind-keeps, bind-shape}
+use Rattle.machine.proofs.Expiry.{guard-known-stays}
 
 -- a configuration with a place for each variable
 pub record Places (c : Config) : Type 0 where
@@ -45,7 +51,7 @@ passes-so-far : (c d : Config) (e : Values) (k : Clause) (ks : List Clause) → 
 passes-so-far c d e (TEST f o x) ks p = refl
 passes-so-far c d e (TESTV f o v) ks p = refl
 passes-so-far c d e (GATHER f v) ks p = refl
-passes-so-far c d e (BIND f v) ks p = ap (λ (y : ℕ). eqb (field e f) y) (settled d v (field e f) e ks p)
+passes-so-far c d e (BIND f v) ks p = ap (λ (y : ℕ). present e f && eqb (field e f) y) (settled d v (field e f) e ks p)
 
 places-bind : (d : Config) (e : Values) (k : Clause) → Places d → Places (bind d e k)
 places-bind d e (TEST f o x) p = p
@@ -63,10 +69,10 @@ walk-all c d e (k ∷ ks) p =
 -- only the values after binding matter
 all-pass-values : (c d d′ : Config) (e : Values) (ks : List Clause) → d .values ≡ d′ .values → allPass c d e ks ≡ allPass c d′ e ks
 all-pass-values c d d′ e [] h = refl
-all-pass-values c d d′ e (TEST f o x ∷ ks) h = ap (λ (b : Bool). holds o (field e f) x && b) (all-pass-values c d d′ e ks h)
-all-pass-values c d d′ e (TESTV f o v ∷ ks) h = ap (λ (b : Bool). holds o (field e f) (valueOf c v) && b) (all-pass-values c d d′ e ks h)
+all-pass-values c d d′ e (TEST f o x ∷ ks) h = ap (λ (b : Bool). (present e f && holds o (field e f) x) && b) (all-pass-values c d d′ e ks h)
+all-pass-values c d d′ e (TESTV f o v ∷ ks) h = ap (λ (b : Bool). (present e f && holds o (field e f) (valueOf c v)) && b) (all-pass-values c d d′ e ks h)
 all-pass-values c d d′ e (BIND f v ∷ ks) h = rw (all-pass-values c d d′ e ks h, h)
-all-pass-values c d d′ e (GATHER f v ∷ ks) h = all-pass-values c d d′ e ks h
+all-pass-values c d d′ e (GATHER f v ∷ ks) h = ap (λ (b : Bool). present e f && b) (all-pass-values c d d′ e ks h)
 
 -- Firing is the walk and the guard.
 pub fires-walk : (c : Config) (s : Step) (e : Values) → Places c
@@ -78,7 +84,13 @@ fires-walk c s e p =
     rw (a, b)
 
 -- two events with the same fields
-module _ (e e′ : Values) (alike : (f : ℕ) → field e f ≡ field e′ f) where
+module _ (e e′ : Values) (same : (f : ℕ) → getD e f none ≡ getD e′ f none) where
+  alike : (f : ℕ) → field e f ≡ field e′ f
+  alike f = ap orZero (same f)
+
+  there : (f : ℕ) → present e f ≡ present e′ f
+  there f = ap isThere (same f)
+
   bind-fields : (c : Config) (ks : List Clause) → bindAll c e ks ≡ bindAll c e′ ks
   bind-fields c [] = refl
   bind-fields c (TEST f o x ∷ ks) = bind-fields c ks
@@ -95,21 +107,26 @@ module _ (e e′ : Values) (alike : (f : ℕ) → field e f ≡ field e′ f) wh
 
   all-pass-fields : (c d : Config) (ks : List Clause) → allPass c d e ks ≡ allPass c d e′ ks
   all-pass-fields c d [] = refl
-  all-pass-fields c d (TEST f o x ∷ ks) = rw (alike f, all-pass-fields c d ks)
-  all-pass-fields c d (TESTV f o v ∷ ks) = rw (alike f, all-pass-fields c d ks)
-  all-pass-fields c d (BIND f v ∷ ks) = rw (alike f, all-pass-fields c d ks)
-  all-pass-fields c d (GATHER f v ∷ ks) = all-pass-fields c d ks
+  all-pass-fields c d (TEST f o x ∷ ks) = rw (same f, all-pass-fields c d ks)
+  all-pass-fields c d (TESTV f o v ∷ ks) = rw (same f, all-pass-fields c d ks)
+  all-pass-fields c d (BIND f v ∷ ks) = rw (same f, all-pass-fields c d ks)
+  all-pass-fields c d (GATHER f v ∷ ks) = rw (same f, all-pass-fields c d ks)
 
   past-due-fields : (fields : List Kind) (c : Config) (ks : List Clause) → anyPastDue fields c e ks ≡ anyPastDue fields c e′ ks
   past-due-fields fields c [] = refl
-  past-due-fields fields c (TEST f o x ∷ ks) = rw (alike f, past-due-fields fields c ks)
-  past-due-fields fields c (TESTV f o v ∷ ks) = rw (alike f, past-due-fields fields c ks)
+  past-due-fields fields c (TEST f o x ∷ ks) = rw (same f, past-due-fields fields c ks)
+  past-due-fields fields c (TESTV f o v ∷ ks) = rw (same f, past-due-fields fields c ks)
   past-due-fields fields c (BIND f v ∷ ks) = past-due-fields fields c ks
   past-due-fields fields c (GATHER f v ∷ ks) = past-due-fields fields c ks
 
   leave-fields : (c : Config) (s : Step) → leave c s e ≡ leave c s e′
   unfolding leave
   leave-fields c s = rw (bind-fields c (s .clauses), gather-fields (c .lists) (s .clauses))
+
+  known-fields : (c : Config) (ks : List Clause) (g : Option Expr) → guardKnown c ks e g ≡ guardKnown c ks e′ g
+  known-fields c ks g =
+      both-ways (guardKnown c ks e g) (guardKnown c ks e′ g) (guard-known-stays e e′ (λ f h. sym (there f) ∙ h) c ks g)
+      (guard-known-stays e′ e (λ f h. there f ∙ h) c ks g)
 
   -- a step does the same on both, and is expired by both or by neither
   pub fire-fields : (c : Config) (s : Step) → fire c s e ≡ fire c s e′
@@ -118,4 +135,10 @@ module _ (e e′ : Values) (alike : (f : ℕ) → field e f ≡ field e′ f) wh
 
   pub expired-fields : (fields : List Kind) (c : Config) (s : Step) → expired fields c s e ≡ expired fields c s e′
   unfolding expired
-  expired-fields fields c s = rw (leave-fields c s, past-due-fields fields c (s .clauses))
+  expired-fields fields c s = rw (leave-fields c s, past-due-fields fields c (s .clauses), known-fields c (s .clauses) (s .guard))
+
+-- of a step's commands the clauses
+pub clauses-exist : (m : ℕ) (ks : List Clause) (g : Option Expr) → All (Exists m) (map CLAUSE ks ++ guardCommands g)
+    → All (λ (k : Clause). Exists m (CLAUSE k)) ks
+clauses-exist m [] g h = tt
+clauses-exist m (k ∷ ks) g h = (h .0, clauses-exist m ks g (h .1))

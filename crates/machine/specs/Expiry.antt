@@ -5,12 +5,12 @@ use mathlib.Core.List.{List, [], _∷_}
 use mathlib.Core.Option.{Option, none, some}
 use lib.ListN.{getD}
 use lib.Dec.{ltb, leb, eqb}
-use Rattle.event_log.specs.Log.{Kind, plain, rising as risingField, Values}
+use Rattle.event_log.specs.Log.{Kind, plain, rising as risingField, Values, present, field}
 use Rattle.formula.specs.Formula.{Operator, equal, unequal, less, greater, atmost, atleast, Clause, TEST, TESTV, BIND, GATHER, Step}
 use Rattle.formula.specs.Formula.{Leaf, CONST, VAR, COUNT, SUM, LENGTH, DIFFERENT, Expr, LEAF, ADD, SUB, LESS, ATMOST, EQUAL, NOT, AND, OR, IF}
 use Rattle.machine.specs.Configuration.{Config}
 use Rattle.machine.specs.Guard.{guardHolds}
-use Rattle.machine.specs.Firing.{field, valueOf, isHeld, leave}
+use Rattle.machine.specs.Firing.{valueOf, isHeld, leave}
 
 -- "Kind 0 is plain, 1 is rising"
 abbrev pub isRising : Kind → Bool
@@ -108,10 +108,11 @@ missed greater x y = false
 missed atmost x y = not (leb x y)
 missed atleast x y = false
 
--- "a TEST or TESTV with less or at most on a rising field is false on n": x has the values by which the step is judged
+-- "a TEST or TESTV with less or at most on a rising field is false on n": x has the values by which the step is judged, "the last present value up to n;
+-- where a field has none, a test of it .. doesn't make the step hopeless"
 abbrev pub pastDue : List Kind → Config → Values → Clause → Bool
-pastDue fields c x (TEST f o y) = rises fields f && missed o (field x f) y
-pastDue fields c x (TESTV f o v) = rises fields f && missed o (field x f) (valueOf c v)
+pastDue fields c x (TEST f o y) = rises fields f && (present x f && missed o (field x f) y)
+pastDue fields c x (TESTV f o v) = rises fields f && (present x f && missed o (field x f) (valueOf c v))
 pastDue fields c x (BIND f v) = false
 pastDue fields c x (GATHER f v) = false
 
@@ -124,9 +125,51 @@ abbrev pub guardFalls : List Kind → Config → List Clause → Option Expr →
 guardFalls fields c ks none = false
 guardFalls fields c ks (some g) = falling fields c ks g
 
+-- the field of a BIND has a value; where the step does not bind the variable it takes none
+abbrev pub arrived : Values → Option ℕ → Bool
+arrived x none = true
+arrived x (some f) = present x f
+
+-- every field that the step gathers into list v has a value
+abbrev pub gathersKnown : Values → List Clause → ℕ → Bool
+gathersKnown x [] v = true
+gathersKnown x (TEST f o y ∷ ks) v = gathersKnown x ks v
+gathersKnown x (TESTV f o u ∷ ks) v = gathersKnown x ks v
+gathersKnown x (BIND f u ∷ ks) v = gathersKnown x ks v
+gathersKnown x (GATHER f u ∷ ks) v = cond (eqb u v) (present x f) true && gathersKnown x ks v
+
+-- "a guard naming a variable or sum that would take its value, doesn't make the step hopeless; a length counts the value all the same": a leaf takes no
+-- value that never arrived
+abbrev pub leafKnown : Config → List Clause → Values → Leaf → Bool
+leafKnown c ks x (CONST y) = true
+leafKnown c ks x (VAR v) = isHeld c v || arrived x (firstBind ks v)
+leafKnown c ks x (COUNT s) = true
+leafKnown c ks x (SUM v) = gathersKnown x ks v
+leafKnown c ks x (LENGTH v) = true
+leafKnown c ks x (DIFFERENT v) = true
+
+-- nor does any leaf of an expression, whatever its command, and of both branches of an IF
+unfoldable pub known : Config → List Clause → Values → Expr → Bool
+known c ks x (LEAF l) = leafKnown c ks x l
+known c ks x (ADD a b) = known c ks x a && known c ks x b
+known c ks x (SUB a b) = known c ks x a && known c ks x b
+known c ks x (LESS a b) = known c ks x a && known c ks x b
+known c ks x (ATMOST a b) = known c ks x a && known c ks x b
+known c ks x (EQUAL a b) = known c ks x a && known c ks x b
+known c ks x (NOT a) = known c ks x a
+known c ks x (AND a b) = known c ks x a && known c ks x b
+known c ks x (OR a b) = known c ks x a && known c ks x b
+known c ks x (IF a b d) = known c ks x a && (known c ks x b && known c ks x d)
+
+abbrev pub guardKnown : Config → List Clause → Values → Option Expr → Bool
+guardKnown c ks x none = true
+guardKnown c ks x (some g) = known c ks x g
+
 -- "A step is hopeless after event n if a TEST or TESTV with less or at most on a rising field is false on n, or its guard is
 -- falling and is 0 with held values and, for variables not held, the field of the step's first BIND of it on n. Counters in
 -- that guard include the step's own"; "its lists include the values it would gather there": the values, counters and lists of the configuration that the
 -- step would leave
 unfoldable pub expired : List Kind → Config → Step → Values → Bool
-expired fields c s x = anyPastDue fields c x (s .clauses) || (guardFalls fields c (s .clauses) (s .guard) && not (guardHolds (leave c s x) (s .guard)))
+expired fields c s x =
+    anyPastDue fields c x (s .clauses)
+    || (guardFalls fields c (s .clauses) (s .guard) && (guardKnown c (s .clauses) x (s .guard) && not (guardHolds (leave c s x) (s .guard))))

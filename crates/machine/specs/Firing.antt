@@ -5,7 +5,7 @@ use mathlib.Core.List.{List, [], _∷_}
 use mathlib.Core.Option.{Option, none, some}
 use lib.ListN.{getD, set}
 use lib.Dec.{ltb, leb, eqb}
-use Rattle.event_log.specs.Log.{Values}
+use Rattle.event_log.specs.Log.{Values, present, field}
 use Rattle.formula.specs.Formula.{Operator, equal, unequal, less, greater, atmost, atleast, Clause, TEST, TESTV, BIND, GATHER, Step}
 use Rattle.machine.specs.Configuration.{Config, addOne, addTo}
 use Rattle.machine.specs.Guard.{guardHolds}
@@ -18,10 +18,6 @@ holds less x y = ltb x y
 holds greater x y = ltb y x
 holds atmost x y = leb x y
 holds atleast x y = leb y x
-
--- an event's value of a field
-abbrev pub field : Values → ℕ → ℕ
-field e f = getD e f 0
 
 -- a variable's value, and whether it is held
 abbrev pub valueOf : Config → ℕ → ℕ
@@ -70,12 +66,13 @@ leave c s e = record {
 }
 
 -- "every TEST holds, every TESTV holds against values held before, every BIND agrees with a value held before or bound by
--- another BIND of the step": c is the configuration before, d the one that the step leaves
+-- another BIND of the step"; "A TEST, TESTV, BIND or GATHER of an absent field keeps the step from firing": c is the configuration before, d the one
+-- that the step leaves
 abbrev pub passes : Config → Config → Values → Clause → Bool
-passes c d e (TEST f o x) = holds o (field e f) x
-passes c d e (TESTV f o v) = holds o (field e f) (valueOf c v)
-passes c d e (BIND f v) = eqb (field e f) (valueOf d v)
-passes c d e (GATHER f v) = true
+passes c d e (TEST f o x) = present e f && holds o (field e f) x
+passes c d e (TESTV f o v) = present e f && holds o (field e f) (valueOf c v)
+passes c d e (BIND f v) = present e f && eqb (field e f) (valueOf d v)
+passes c d e (GATHER f v) = present e f
 
 abbrev pub allPass : Config → Config → Values → List Clause → Bool
 allPass c d e [] = true

@@ -1,5 +1,5 @@
 -- The machine that a log and a formula make: its steps by number, on events by number.
-use Prim.Native.Nat.{ℕ}
+use Prim.Native.Nat.{ℕ, suc}
 use mathlib.Core.Bool.{Bool, true, false}
 use mathlib.Core.List.{List}
 use mathlib.Core.Option.{Option, none, some}
@@ -26,9 +26,9 @@ abbrev pub expiredBy : List Kind → Option Step → Config → Values → Bool
 expiredBy fields none c x = true
 expiredBy fields (some s) c x = expired fields c s x
 
--- step k is expired (the paper's hopeless) after event n; so is a step that the state lacks
+-- step k is expired (the paper's hopeless) after event n, "judged by the last present value up to n"; so is a step that the state lacks
 unfoldable pub expiredAt : Log → Formula → Config → ℕ → ℕ → Bool
-expiredAt log formula c k n = expiredBy (log .fields) (stepAt formula (c .state) k) c (latest log n)
+expiredAt log formula c k n = expiredBy (log .fields) (stepAt formula (c .state) k) c (latest log (suc n))
 
 abbrev pub isCommitted : StateKind → Bool
 isCommitted ordinary = false

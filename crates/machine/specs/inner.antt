@@ -2,3 +2,4 @@
 pub mod Walk
 pub mod Valid
 pub mod Along
+pub mod Arrived

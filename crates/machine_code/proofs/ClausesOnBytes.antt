@@ -9,9 +9,12 @@ use lib.ListN.{length, getD, set, List·getD-eq-default}
 use lib.Seq.{set-out}
 use lib.Dec.{eqb, ltb}
 use Rattle.base.specs.Value.{valueAt}
+use Rattle.event_log.specs.Log.{Values, field}
+use Rattle.event_log.specs.Event.{together}
+use Rattle.event_log.proofs.Fields.{present-together}
 use Rattle.machine_code.specs.declared.Configuration.{Configuration}
 use Rattle.machine_code.specs.declared.Walked.{Walked}
-use Rattle.machine_code.specs.inner.Bytes.{holdsBy, missedBy, isClause, tested, holding, bound, noted, clauseAt}
+use Rattle.machine_code.specs.inner.Bytes.{holdsBy, missedBy, isClause, tested, holding, bound, noted, met, clauseOn, clauseAt}
 use Rattle.machine_code.specs.inner.Bytes.{walkFrom, begun, walked}
 
 -- what holds of two walks holds of either
@@ -107,29 +110,55 @@ unfolding bound
 bind-made w d next v x y r p e₁ e₂ e₃ = rw (e₃, e₂, ← e₁)
 
 -- the clause's operands as the code reads them
-module _ (f prior : List ℕ) (rises : List Bool) (event : List ℕ) (w : Walked) (field x o c : ℕ) (r : Bool)
-    (e₁ : field ≡ getD f (w .at + 1) 0) (e₂ : x ≡ getD event field 0) (e₃ : r ≡ getD rises field false) (e₄ : o ≡ getD f (w .at + 2) 0)
-    (e₅ : c ≡ getD f (w .at) 0) where
-  pub clause-test : (y : ℕ) (d : Walked) → c ≡ 0x12 → y ≡ valueAt f (w .at + 3) → d ≡ tested w (w .at + 7) o x y r → d ≡ clauseAt f prior rises event w
-  unfolding clauseAt
-  clause-test y d k e g = rw (← e₅, k, ← e₁, ← e₂, ← e₃, ← e₄, ← e) g
+module _ (f prior : List ℕ) (w : Walked) (x o c : ℕ) (r : Bool) (e₄ : o ≡ getD f (w .at + 2) 0) (e₅ : c ≡ getD f (w .at) 0) where
+  pub clause-test : (y : ℕ) (d : Walked) → c ≡ 0x12 → y ≡ valueAt f (w .at + 3) → d ≡ tested w (w .at + 7) o x y r → d ≡ clauseOn f prior w x r
+  unfolding clauseOn
+  clause-test y d k e g = rw (← e₅, k, ← e₄, ← e) g
 
   pub clause-testv : (v y : ℕ) (d : Walked) → c ≡ 0x13 → v ≡ getD f (w .at + 3) 0 → y ≡ getD prior v 0 → d ≡ tested w (w .at + 4) o x y r
-      → d ≡ clauseAt f prior rises event w
-  unfolding clauseAt
-  clause-testv v y d k e₆ e g = rw (← e₅, k, ← e₁, ← e₂, ← e₃, ← e₄, ← e₆, ← e) g
+      → d ≡ clauseOn f prior w x r
+  unfolding clauseOn
+  clause-testv v y d k e₆ e g = rw (← e₅, k, ← e₄, ← e₆, ← e) g
 
-  pub clause-note : (d : Walked) → c ≡ 0x17 → d ≡ noted w (w .at + 3) → d ≡ clauseAt f prior rises event w
-  unfolding clauseAt
+  pub clause-note : (d : Walked) → c ≡ 0x17 → d ≡ noted w (w .at + 3) → d ≡ clauseOn f prior w x r
+  unfolding clauseOn
   clause-note d k g = rw (← e₅, k) g
 
-  pub clause-bind : (d : Walked) → (c ≡ 0x12 → ⊥) → (c ≡ 0x13 → ⊥) → (c ≡ 0x17 → ⊥) → d ≡ bound w (w .at + 3) o x r → d ≡ clauseAt f prior rises event w
-  unfolding clauseAt
-  clause-bind d n m k g = rw (← e₅, ne-eqb c 0x12 n, ne-eqb c 0x13 m, ne-eqb c 0x17 k, ← e₁, ← e₂, ← e₃, ← e₄) g
+  pub clause-bind : (d : Walked) → (c ≡ 0x12 → ⊥) → (c ≡ 0x13 → ⊥) → (c ≡ 0x17 → ⊥) → d ≡ bound w (w .at + 3) o x r → d ≡ clauseOn f prior w x r
+  unfolding clauseOn
+  clause-bind d n m k g = rw (← e₅, ne-eqb c 0x12 n, ne-eqb c 0x13 m, ne-eqb c 0x17 k, ← e₄) g
+
+-- the walk at a clause
+pub meet-made : (w : Walked) (there p : Bool) → p ≡ (w .passes && there)
+    → record {
+      at = w .at;
+      passes = p;
+      due = w .due;
+      gathers = w .gathers;
+      held = w .held;
+      values = w .values;
+      grows = w .grows;
+    }
+    ≡ met w there
+unfolding met
+meet-made w there p e = rw e
+
+-- it stands where it stood
+pub meet-at : (w : Walked) (there : Bool) → (met w there) .at ≡ w .at
+unfolding met
+meet-at w there = refl
+
+-- the field as the code reads it
+pub clause-read : (f prior : List ℕ) (rises there : List Bool) (event : List ℕ) (w v d : Walked) (k x : ℕ) (p r q : Bool) → k ≡ getD f (w .at + 1) 0
+    → p ≡ getD there k false → x ≡ field (together there event) k → r ≡ getD rises k false → q ≡ (r && p) → v ≡ met w p → d ≡ clauseOn f prior v x q
+    → d ≡ clauseAt f prior rises (together there event) w
+unfolding clauseAt
+clause-read f prior rises there event w v d k x p r q e₁ e₂ e₃ e₄ e₅ e₆ g =
+    rw (← e₁, present-together there event k, ← e₂, ← e₃, ← e₄, ← e₅, ← e₆) g
 
 -- a clause takes at least 3 bytes
-pub clause-progress : (f prior : List ℕ) (rises : List Bool) (event : List ℕ) (w : Walked) → w .at + 3 ≤ (clauseAt f prior rises event w) .at
-unfolding clauseAt tested bound noted
+pub clause-progress : (f prior : List ℕ) (rises : List Bool) (event : Values) (w : Walked) → w .at + 3 ≤ (clauseAt f prior rises event w) .at
+unfolding clauseAt clauseOn met tested bound noted
 clause-progress f prior rises event w =
     let c = getD f (w .at) 0 in
     either (λ d. w .at + 3 ≤ d .at) (eqb c 0x12) _ _ (omega arith)
@@ -137,12 +166,12 @@ clause-progress f prior rises event w =
     (either (λ d. w .at + 3 ≤ d .at) (eqb c 0x17) _ _ (omega arith) (omega arith)))
 
 -- a walk from v on that stands at w: what is left to walk is what was left from v
-pub record Walking (f prior : List ℕ) (rises : List Bool) (event : List ℕ) (v w : Walked) : Type 0 where
+pub record Walking (f prior : List ℕ) (rises : List Bool) (event : Values) (v w : Walked) : Type 0 where
   pub left : ℕ
   pub enough : length f < left + w .at
   pub ahead : walkFrom (suc (length f)) f prior rises event v ≡ walkFrom left f prior rises event w
 
-module _ (f prior : List ℕ) (rises : List Bool) (event : List ℕ) (v : Walked) where
+module _ (f prior : List ℕ) (rises : List Bool) (event : Values) (v : Walked) where
   pub walking-start : Walking f prior rises event v v
   walking-start = record { left = suc (length f); enough = omega arith; ahead = refl }
 
@@ -179,7 +208,7 @@ module _ (f prior : List ℕ) (rises : List Bool) (event : List ℕ) (v : Walked
       let p : w .at + 3 ≤ d .at = rw q (clause-progress f prior rises event w) in
       omega arith
 
-pub walked-from : (f : List ℕ) (at : ℕ) (c : Configuration) (rises : List Bool) (event : List ℕ) (v w : Walked) → v ≡ begun at c
+pub walked-from : (f : List ℕ) (at : ℕ) (c : Configuration) (rises : List Bool) (event : Values) (v w : Walked) → v ≡ begun at c
     → w ≡ walkFrom (suc (length f)) f (c .values) rises event v → w ≡ walked f at c rises event
 unfolding walked
 walked-from f at c rises event v w p q = rw (← p) q

@@ -8,10 +8,13 @@ use borrow.Author.Tests.{ne-eqb, eqb-true, eqb-false, ltb-true, ltb-false, not-t
 use lib.ListN.{length, getD, replicate}
 use lib.Dec.{eqb, ltb, leb}
 use Rattle.base.specs.Value.{valueAt}
+use Rattle.event_log.specs.Log.{Values, present, field}
+use Rattle.event_log.specs.Event.{together}
+use Rattle.event_log.proofs.Fields.{present-together}
 use Rattle.machine_code.specs.declared.Configuration.{Configuration}
 use Rattle.machine_code.specs.declared.Fired.{Fired}
 use Rattle.machine_code.specs.declared.Walked.{Walked}
-use Rattle.machine_code.specs.inner.Bytes.{holdsBy, missedBy, isClause, widthOf, tested, holding, bound, noted, clauseAt, walkFrom, begun}
+use Rattle.machine_code.specs.inner.Bytes.{holdsBy, missedBy, isClause, widthOf, tested, holding, bound, noted, met, clauseOn, clauseAt, walkFrom, begun}
 use Rattle.machine_code.specs.inner.Bytes.{walked, fired, lapsed}
 use Rattle.base.proofs.Tests.{and-false, or-right}
 use Rattle.runs.proofs.Moves.{and-both}
@@ -29,6 +32,14 @@ abbrev Late : Walked → Type 0
 Late w = w .due ≡ true
 
 -- each goes on so
+met-fails : (w : Walked) (p : Bool) → Failed w → Failed (met w p)
+unfolding met
+met-fails w p h = rw h
+
+met-due : (w : Walked) (p : Bool) → Late w → Late (met w p)
+unfolding met
+met-due w p h = h
+
 test-fails : (w : Walked) (next o x y : ℕ) (r : Bool) → Failed w → Failed (tested w next o x y r)
 unfolding tested
 test-fails w next o x y r h = rw h
@@ -53,16 +64,23 @@ bind-due : (w : Walked) (next v x : ℕ) (r : Bool) → Late w → Late (bound w
 unfolding bound holding
 bind-due w next v x r h = either Late (getD (w .held) v false) w _ h h
 
-module _ (f prior : List ℕ) (rises : List Bool) (event : List ℕ) where
-  -- what each clause keeps, every clause keeps
-  pub clause-keeps : (P : Walked → Type 0) (w : Walked) → ((next o x y : ℕ) (r : Bool) → P (tested w next o x y r))
-      → ((next : ℕ) → P (noted w next)) → ((next v x : ℕ) (r : Bool) → P (bound w next v x r))
-      → P (clauseAt f prior rises event w)
-  unfolding clauseAt
-  clause-keeps P w t g b =
+-- what a test, a note and a binding keep, every clause keeps
+module _ (P : Walked → Type 0) (met-keeps : (w : Walked) (p : Bool) → P w → P (met w p))
+    (test-keeps : (w : Walked) (next o x y : ℕ) (r : Bool) → P w → P (tested w next o x y r))
+    (note-keeps : (w : Walked) (next : ℕ) → P w → P (noted w next))
+    (bind-keeps : (w : Walked) (next v x : ℕ) (r : Bool) → P w → P (bound w next v x r)) (f prior : List ℕ) where
+  on-keeps : (w : Walked) (x : ℕ) (r : Bool) → P w → P (clauseOn f prior w x r)
+  unfolding clauseOn
+  on-keeps w x r h =
       let c = getD f (w .at) 0 in
-      either P (eqb c 0x12) _ _ (t _ _ _ _ _) (either P (eqb c 0x13) _ _ (t _ _ _ _ _) (either P (eqb c 0x17) _ _ (g _) (b _ _ _ _)))
+      either P (eqb c 0x12) _ _ (test-keeps w _ _ _ _ _ h)
+      (either P (eqb c 0x13) _ _ (test-keeps w _ _ _ _ _ h) (either P (eqb c 0x17) _ _ (note-keeps w _ h) (bind-keeps w _ _ _ _ h)))
 
+  pub clause-keeps : (rises : List Bool) (event : Values) (w : Walked) → P w → P (clauseAt f prior rises event w)
+  unfolding clauseAt
+  clause-keeps rises event w h = on-keeps _ _ _ (met-keeps w _ h)
+
+module _ (f prior : List ℕ) (rises : List Bool) (event : Values) where
   pub walk-keeps : (P : Walked → Type 0) → ((w : Walked) → P w → P (clauseAt f prior rises event w))
       → (n : ℕ) (w : Walked) → P w → P (walkFrom n f prior rises event w)
   unfolding walkFrom
@@ -70,14 +88,10 @@ module _ (f prior : List ℕ) (rises : List Bool) (event : List ℕ) where
   walk-keeps P k (suc n) w h = either P (isClause (getD f (w .at) 0)) _ w (walk-keeps P k n (clauseAt f prior rises event w) (k w h)) h
 
   pub walk-fails : (n : ℕ) (w : Walked) → w .passes ≡ false → (walkFrom n f prior rises event w) .passes ≡ false
-  walk-fails =
-      walk-keeps Failed
-      (λ w h. clause-keeps Failed w (λ n o x y r. test-fails w n o x y r h) (λ n. note-fails w n h) (λ n v x r. bind-fails w n v x r h))
+  walk-fails = walk-keeps Failed (clause-keeps Failed met-fails test-fails note-fails bind-fails f prior rises event)
 
   walk-due : (n : ℕ) (w : Walked) → w .due ≡ true → (walkFrom n f prior rises event w) .due ≡ true
-  walk-due =
-      walk-keeps Late
-      (λ w h. clause-keeps Late w (λ n o x y r. test-due w n o x y r h) (λ n. note-due w n h) (λ n v x r. bind-due w n v x r h))
+  walk-due = walk-keeps Late (clause-keeps Late met-due test-due note-due bind-due f prior rises event)
 
 -- a clause's command, and where the walk stands behind it
 width-clause : (c : ℕ) → (widthOf c ≡ 0 → ⊥) → isClause c ≡ true
@@ -126,9 +140,9 @@ width-most c taken e = go (eqb c 0x12) (eqb c 0x13) (eqb c 0x17) (eqb c 0x14) e
     go false false false true e = omega arith
     go false false false false e = omega arith
 
-pub clause-place : (f prior : List ℕ) (rises : List Bool) (event : List ℕ) (w : Walked) → (widthOf (getD f (w .at) 0) ≡ 0 → ⊥)
+pub clause-place : (f prior : List ℕ) (rises : List Bool) (event : Values) (w : Walked) → (widthOf (getD f (w .at) 0) ≡ 0 → ⊥)
     → (clauseAt f prior rises event w) .at ≡ w .at + widthOf (getD f (w .at) 0)
-unfolding clauseAt tested bound noted widthOf
+unfolding clauseAt clauseOn met tested bound noted widthOf
 clause-place f prior rises event w n =
     let c = getD f (w .at) 0 in
     go (eqb c 0x12) (eqb c 0x13) (eqb c 0x17) (eqb c 0x14) _ _ _ _ refl refl refl refl n
@@ -142,31 +156,52 @@ clause-place f prior rises event w n =
     go false false false true a b d e p q h k n = k
     go false false false false a b d e p q h k n = absurd (n refl)
 
--- a TEST that is false on the event, and one past due, whatever is held
-module _ (f prior : List ℕ) (rises : List Bool) (event : List ℕ) (w : Walked) where
-  fails-here : failsAt f (getD f (w .at) 0) (w .at) event ≡ true → (clauseAt f prior rises event w) .passes ≡ false
-  unfolding clauseAt tested failsAt
-  fails-here h =
+unmet : (w : Walked) (p : Bool) → p ≡ false → Failed (met w p)
+unfolding met
+unmet w p h = rw h (and-false (w .passes) false refl)
+
+-- a clause of an absent field, a TEST that is false on the event, and one past due, whatever is held
+module _ (f prior : List ℕ) (rises : List Bool) (event : Values) (w : Walked) where
+  absent-here : present event (getD f (w .at + 1) 0) ≡ false → (clauseAt f prior rises event w) .passes ≡ false
+  unfolding clauseAt
+  absent-here h =
+      on-keeps Failed met-fails test-fails note-fails bind-fails f prior (met w (present event (getD f (w .at + 1) 0))) _ _
+      (unmet w (present event (getD f (w .at + 1) 0)) h)
+
+  false-here : (eqb (getD f (w .at) 0) 0x12 && not (holdsBy (getD f (w .at + 2) 0) (field event (getD f (w .at + 1) 0)) (valueAt f (w .at + 3)))) ≡ true
+      → (clauseAt f prior rises event w) .passes ≡ false
+  unfolding clauseAt clauseOn met tested
+  false-here h =
       let p = and-both (eqb (getD f (w .at) 0) 0x12) _ h in
       let q = not-true _ (p .1) in
-      rw (p .0) (and-false (w .passes) _ q)
+      rw (p .0) (and-false (w .passes && present event (getD f (w .at + 1) 0)) _ q)
+
+  fails-here : failsAt f (getD f (w .at) 0) (w .at) event ≡ true → (clauseAt f prior rises event w) .passes ≡ false
+  unfolding failsAt
+  fails-here h = go (present event (getD f (w .at + 1) 0)) refl h
+    where
+      go : (b : Bool) → present event (getD f (w .at + 1) 0) ≡ b
+          → (not b || (eqb (getD f (w .at) 0) 0x12 && not (holdsBy (getD f (w .at + 2) 0) (field event (getD f (w .at + 1) 0)) (valueAt f (w .at + 3))))) ≡ true
+          → (clauseAt f prior rises event w) .passes ≡ false
+      go false e k = absent-here e
+      go true e k = false-here k
 
   misses-here : missesAt f (getD f (w .at) 0) (w .at) rises event ≡ true → (clauseAt f prior rises event w) .due ≡ true
-  unfolding clauseAt tested missesAt
+  unfolding clauseAt clauseOn met tested missesAt
   misses-here h =
       let p = and-both (eqb (getD f (w .at) 0) 0x12) _ h in
       rw (p .0) (or-right (w .due) _ (p .1))
 
 -- the walk of a configuration at a place
-pub record Standing (f event : List ℕ) (at place : ℕ) (c : Configuration) (rises : List Bool) : Type 0 where
+pub record Standing (f : List ℕ) (event : Values) (at place : ℕ) (c : Configuration) (rises : List Bool) : Type 0 where
   pub w : Walked
   pub walking : Walking f (c .values) rises event (begun at c) w
   pub stands : w .at ≡ place
 
-abbrev pub Reached : List ℕ → List ℕ → ℕ → ℕ → Type 0
+abbrev pub Reached : List ℕ → Values → ℕ → ℕ → Type 0
 Reached f event at place = (c : Configuration) (rises : List Bool) → Standing f event at place c rises
 
-module _ (f event : List ℕ) (at : ℕ) where
+module _ (f : List ℕ) (event : Values) (at : ℕ) where
   pub reach-start : Reached f event at (at + 2)
   unfolding begun
   reach-start c rises = record { w = begun at c; walking = walking-start f (c .values) rises event (begun at c); stands = refl }
@@ -194,7 +229,7 @@ module _ (f event : List ℕ) (at : ℕ) where
               ∙ ap (λ i. place + i) (sym (e₂ ∙ ap widthOf e₁));
         }
 
-    -- a TEST that is false: no walk passes, so the step does not fire
+    -- an absent field, or a TEST that is false: no walk passes, so the step does not fire
     pub silent-here : failsAt f command place event ≡ true → (fresh : List Bool) (c : Configuration) → (fired f at c fresh event) .fires ≡ false
     unfolding fired walked
     silent-here k fresh c =
@@ -228,7 +263,7 @@ module _ (f event : List ℕ) (at : ℕ) where
         go false u v h = rw h
 
 -- a place that is reached is reached by the walk of every configuration, over any values
-pub reached : (f : List ℕ) (at place : ℕ) → Reaches f at place → (event : List ℕ) → Reached f event at place
+pub reached : (f : List ℕ) (at place : ℕ) → Reaches f at place → (event : Values) → Reached f event at place
 reached f at _ begins event = reach-start f event at
 reached f at _ (onward place r n) event = reach-on f event at place (widthOf (getD f place 0)) (getD f place 0) refl refl n (reached f at place r event)
 
@@ -240,25 +275,31 @@ reaches-on f at place taken command e₁ e₂ n r =
     subst (λ t. Reaches f at (place + t)) (sym e) (onward place r (subst (λ t. t ≡ 0 → ⊥) e n))
 
 -- the clause as the code reads it
-pub fails-other : (f : List ℕ) (c p : ℕ) (event : List ℕ) → (c ≡ 0x12 → ⊥) → false ≡ failsAt f c p event
-unfolding failsAt
-fails-other f c p event n = rw (ne-eqb c 0x12 n)
+module _ (f : List ℕ) (there : List Bool) (values : List ℕ) (c p k : ℕ) (e : k ≡ getD f (p + 1) 0) where
+  abbrev event : Values
+  event = together there values
 
-pub misses-other : (f : List ℕ) (c p : ℕ) (rises : List Bool) (event : List ℕ) → (c ≡ 0x12 → ⊥) → false ≡ missesAt f c p rises event
-unfolding missesAt
-misses-other f c p rises event n = rw (ne-eqb c 0x12 n)
-
-pub misses-plain : (f : List ℕ) (c p field : ℕ) (rises : List Bool) (event : List ℕ) → c ≡ 0x12 → field ≡ getD f (p + 1) 0
-    → getD rises field false ≡ false → false ≡ missesAt f c p rises event
-unfolding missesAt
-misses-plain f c p field rises event k e h = rw (k, ← e, h)
-
-module _ (f : List ℕ) (p : ℕ) (event : List ℕ) (field x o y : ℕ) (e₁ : field ≡ getD f (p + 1) 0) (e₂ : x ≡ getD event field 0)
-    (e₃ : o ≡ getD f (p + 2) 0) (e₄ : y ≡ valueAt f (p + 3)) where
-  pub fails-read : (c : ℕ) (h : Bool) → c ≡ 0x12 → h ≡ holdsBy o x y → not h ≡ failsAt f c p event
+  pub fails-absent : getD there k false ≡ false → true ≡ failsAt f c p event
   unfolding failsAt
-  fails-read c h k e = rw (k, ← e₁, ← e₂, ← e₃, ← e₄, ← e)
+  fails-absent h = rw (← e, present-together there values k, h)
 
-  pub misses-read : (rises : List Bool) (c : ℕ) (r : Bool) → c ≡ 0x12 → getD rises field false ≡ true → r ≡ missedBy o x y → r ≡ missesAt f c p rises event
+  pub fails-other : getD there k false ≡ true → (c ≡ 0x12 → ⊥) → false ≡ failsAt f c p event
+  unfolding failsAt
+  fails-other h n = rw (← e, present-together there values k, h, ne-eqb c 0x12 n)
+
+  pub misses-other : (rises : List Bool) → (c ≡ 0x12 → ⊥) → false ≡ missesAt f c p rises event
   unfolding missesAt
-  misses-read rises c r k h q = rw (k, ← e₁, h, ← e₂, ← e₃, ← e₄) q
+  misses-other rises n = rw (ne-eqb c 0x12 n)
+
+  pub misses-plain : (rises : List Bool) → c ≡ 0x12 → (getD rises k false && getD there k false) ≡ false → false ≡ missesAt f c p rises event
+  unfolding missesAt
+  misses-plain rises h n = rw (h, ← e, present-together there values k, n)
+
+  module _ (x o y : ℕ) (e₂ : x ≡ field event k) (e₃ : o ≡ getD f (p + 2) 0) (e₄ : y ≡ valueAt f (p + 3)) (test : c ≡ 0x12) where
+    pub fails-read : (h : Bool) → getD there k false ≡ true → h ≡ holdsBy o x y → not h ≡ failsAt f c p event
+    unfolding failsAt
+    fails-read h t q = rw (test, ← e, present-together there values k, t, ← e₂, ← e₃, ← e₄, ← q)
+
+    pub misses-read : (rises : List Bool) (r : Bool) → (getD rises k false && getD there k false) ≡ true → r ≡ missedBy o x y → r ≡ missesAt f c p rises event
+    unfolding missesAt
+    misses-read rises r t q = rw (test, ← e, present-together there values k, t, ← e₂, ← e₃, ← e₄) q

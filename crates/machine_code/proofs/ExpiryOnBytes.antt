@@ -1,7 +1,7 @@
 -- Expiry over the formula's bytes: what each function of the code computes, and that on a step's bytes it is the definition's.
 use Prim.Native.Nat.{ℕ, _+_, _<_, _≤_}
 use mathlib.Core.Path.{_≡_, refl, ap, sym, _∙_}
-use mathlib.Core.Bool.{Bool, true, false, cond, not, _&&_, _||_}
+use mathlib.Core.Bool.{Bool, true, false, cond, not, _&&_, _||_, and-assoc}
 use mathlib.Core.List.{List, [], _∷_, _++_}
 use mathlib.Core.Option.{Option, none, some}
 use native.Mathlib.Omega.{arith}
@@ -10,7 +10,7 @@ use lib.ListN.{length, getD, drop, set, length-set, getD-replicate}
 use lib.Seq.{getD-set-same, getD-set-other}
 use lib.Dec.{eqb}
 use Rattle.base.specs.Lists.{All}
-use Rattle.event_log.specs.Log.{Kind}
+use Rattle.event_log.specs.Log.{Kind, Values, present, field}
 use Rattle.formula.specs.Formula.{Expr, Clause, TEST, TESTV, BIND, GATHER, Step}
 use Rattle.formula.specs.Encode.{operatorByte, encodeExpr, guardCommands}
 use Rattle.formula.specs.Correct.{LeafExists, Exists, GuardFits}
@@ -18,9 +18,12 @@ use Rattle.machine_code.specs.declared.Configuration.{Configuration}
 use Rattle.machine_code.specs.declared.Gained.{Gained}
 use Rattle.machine_code.specs.declared.Walked.{Walked}
 use Rattle.machine.specs.Firing.{isHeld, leave}
-use Rattle.machine.specs.Expiry.{rises, firstBind, fieldRises, gathers, gathersRising, guardFalls, expired}
+use Rattle.machine.specs.Guard.{guardHolds}
+use Rattle.machine.specs.Expiry.{rises, firstBind, fieldRises, gathers, gathersRising, guardFalls, guardKnown, expired}
+use Rattle.machine.specs.inner.Arrived.{kindsIn}
+use Rattle.machine.proofs.Arrived.{rises-in, falls-in}
 use Rattle.guard_code.specs.inner.Bytes.{leafMarked, fallsAt}
-use Rattle.machine_code.specs.inner.Bytes.{tested, holding, bound, noted, begun, walked, kept, gained, raised, guardBehind, configOf, falling, growing}
+use Rattle.machine_code.specs.inner.Bytes.{tested, holding, bound, noted, met, begun, walked, kept, gained, raised, guardBehind, configOf, falling, growing}
 use Rattle.machine_code.specs.inner.Bytes.{fallsBehind, lapsed}
 use Rattle.machine_code.proofs.WalkOnBytes.{first-byte, drop-more, walkOf}
 use Rattle.guard_code.proofs.TrendOnBytes.{judge-encode, marked-rises, marked-falls}
@@ -28,13 +31,13 @@ use Rattle.machine_code.proofs.FiringOnBytes.{StepAt, Ready, Carries, g
 use Rattle.machine_code.proofs.FiringOnBytes.{parts-exist, guard-exists}
 use Rattle.machine_code.proofs.GainingOnBytes.{gains-by, judged}
 
-pub lapsed-out : (f : List ℕ) (at : ℕ) (c : Configuration) (fresh rising : List Bool) (event : List ℕ) → length f ≤ at
+pub lapsed-out : (f : List ℕ) (at : ℕ) (c : Configuration) (fresh rising : List Bool) (event : Values) → length f ≤ at
     → true ≡ lapsed f at c fresh rising event
 unfolding lapsed
 lapsed-out f at c fresh rising event h = rw (le-leb (length f) at h)
 
 -- the code's three ways out behind the walk
-module _ (f : List ℕ) (at : ℕ) (c : Configuration) (fresh rising : List Bool) (event : List ℕ) (w : Walked) (in-file : at < length f)
+module _ (f : List ℕ) (at : ℕ) (c : Configuration) (fresh rising : List Bool) (event : Values) (w : Walked) (in-file : at < length f)
     (e : w ≡ walked f at c rising event) where
   pub lapsed-due : w .due ≡ true → true ≡ lapsed f at c fresh rising event
   unfolding lapsed
@@ -72,8 +75,12 @@ unfolding bound holding
 bound-marked w next v x r true e m = rw e (record { held-8 = m .held-8; grows-8 = m .grows-8 })
 bound-marked w next v x r false e m = rw e (record { held-8 = length-set (w .held) v true ∙ m .held-8; grows-8 = length-set (w .grows) v r ∙ m .grows-8 })
 
-module _ (f : List ℕ) (fieldKinds : List Kind) (rising : List Bool) (mark : (g : ℕ) → getD rising g false ≡ rises fieldKinds g)
-    (prior event : List ℕ) (v : ℕ) (small : v < 8) where
+module _ (f : List ℕ) (fieldKinds : List Kind) (rising : List Bool) (prior : List ℕ) (event : Values)
+    (mark : (g : ℕ) → (getD rising g false && present event g) ≡ rises fieldKinds g) (v : ℕ) (small : v < 8) where
+  -- a field is marked as rising, and is there
+  abbrev risesThere : ℕ → Bool
+  risesThere g = getD rising g false && present event g
+
   abbrev Grown : List Clause → Walked → Type 0
   Grown ks w =
       getD ((walkOf f prior rising event w ks) .grows) v false ≡ cond (getD (w .held) v false) (getD (w .grows) v false)
@@ -91,9 +98,9 @@ module _ (f : List ℕ) (fieldKinds : List Kind) (rising : List Bool) (mark : (g
 
   -- what a BIND of u does to v's marks
   bound-marks : (ks : List Clause) (w : Walked) (next g u x : ℕ) → Marked w → (b : Bool) → getD (w .held) u false ≡ b → (t : Bool) → eqb u v ≡ t
-      → cond (getD ((bound w next u x (getD rising g false)) .held) v false)
-      (getD ((bound w next u x (getD rising g false)) .grows) v false)
-      (later fieldKinds (getD ((bound w next u x (getD rising g false)) .grows) v false) (firstBind ks v))
+      → cond (getD ((bound w next u x (risesThere g)) .held) v false)
+      (getD ((bound w next u x (risesThere g)) .grows) v false)
+      (later fieldKinds (getD ((bound w next u x (risesThere g)) .grows) v false) (firstBind ks v))
       ≡ cond (getD (w .held) v false) (getD (w .grows) v false) (later fieldKinds (getD (w .grows) v false) (cond (eqb u v) (some g) (firstBind ks v)))
   unfolding bound holding
   bound-marks ks w next g u x m true e true q =
@@ -105,13 +112,13 @@ module _ (f : List ℕ) (fieldKinds : List Kind) (rising : List Bool) (mark : (g
       let p : u ≡ v = eqb-true u v q in
       let h : getD (w .held) v false ≡ false = ap (λ i. getD (w .held) i false) (sym p) ∙ e in
       let a : getD (set (w .held) v true) v false ≡ true = getD-set-same (w .held) v true false (omega (arith, m .held-8)) in
-      let d : getD (set (w .grows) v (getD rising g false)) v false ≡ getD rising g false =
-      getD-set-same (w .grows) v (getD rising g false) false (omega (arith, m .grows-8)) in
+      let d : getD (set (w .grows) v (risesThere g)) v false ≡ risesThere g =
+      getD-set-same (w .grows) v (risesThere g) false (omega (arith, m .grows-8)) in
       rw (e, q, p, h, a, d) (mark g)
   bound-marks ks w next g u x m false e false q =
       let ne : v ≡ u → ⊥ = λ r. eqb-false u v q (sym r) in
       let a : getD (set (w .held) u true) v false ≡ getD (w .held) v false = getD-set-other (w .held) u v true false ne in
-      let d : getD (set (w .grows) u (getD rising g false)) v false ≡ getD (w .grows) v false = getD-set-other (w .grows) u v (getD rising g false) false ne in
+      let d : getD (set (w .grows) u (risesThere g)) v false ≡ getD (w .grows) v false = getD-set-other (w .grows) u v (risesThere g) false ne in
       rw (e, q, a, d)
 
   noted-grown : (ks : List Clause) (w : Walked) (next : ℕ) → Marked w → (Marked (noted w next) → Grown ks (noted w next))
@@ -120,17 +127,27 @@ module _ (f : List ℕ) (fieldKinds : List Kind) (rising : List Bool) (mark : (g
   unfolding noted
   noted-grown ks w next m g = g (record { held-8 = m .held-8; grows-8 = m .grows-8 })
 
+  met-marked : (w : Walked) (p : Bool) → Marked w → Marked (met w p)
+  unfolding met
+  met-marked w p m = record { held-8 = m .held-8; grows-8 = m .grows-8 }
+
   grown : (ks : List Clause) (w : Walked) → Marked w → Grown ks w
+  unfolding met
   grown [] w m = cond-same (getD (w .held) v false) (getD (w .grows) v false)
   grown (TEST g o y ∷ ks) w m =
-      tested-grown ks w (w .at + 7) (operatorByte o) (getD event g 0) y (getD rising g false) (grown ks _ (tested-marked w _ _ _ _ _ m))
+      let u = met w (present event g) in
+      tested-grown ks u (w .at + 7) (operatorByte o) (field event g) y (risesThere g) (grown ks _ (tested-marked u _ _ _ _ _ (met-marked w _ m)))
   grown (TESTV g o u ∷ ks) w m =
-      tested-grown ks w (w .at + 4) (operatorByte o) (getD event g 0) (getD prior u 0) (getD rising g false)
-      (grown ks _ (tested-marked w _ _ _ _ _ m))
+      let z = met w (present event g) in
+      tested-grown ks z (w .at + 4) (operatorByte o) (field event g) (getD prior u 0) (risesThere g)
+      (grown ks _ (tested-marked z _ _ _ _ _ (met-marked w _ m)))
   grown (BIND g u ∷ ks) w m =
-      grown ks (bound w (w .at + 3) u (getD event g 0) (getD rising g false)) (bound-marked w _ _ _ _ (getD (w .held) u false) refl m)
-      ∙ bound-marks ks w (w .at + 3) g u (getD event g 0) m (getD (w .held) u false) refl (eqb u v) refl
-  grown (GATHER g u ∷ ks) w m = noted-grown ks w (w .at + 3) m (grown ks (noted w (w .at + 3)))
+      let z = met w (present event g) in
+      grown ks (bound z (w .at + 3) u (field event g) (risesThere g)) (bound-marked z _ _ _ _ (getD (w .held) u false) refl (met-marked w _ m))
+      ∙ bound-marks ks z (w .at + 3) g u (field event g) (met-marked w _ m) (getD (w .held) u false) refl (eqb u v) refl
+  grown (GATHER g u ∷ ks) w m =
+      let z = met w (present event g) in
+      noted-grown ks z (w .at + 3) (met-marked w _ m) (grown ks (noted z (w .at + 3)))
 
 held-first : (fieldKinds : List Kind) (b : Bool) (o : Option ℕ) → cond b b (later fieldKinds b o) ≡ (b || fieldRises fieldKinds o)
 held-first fieldKinds true o = refl
@@ -138,34 +155,41 @@ held-first fieldKinds false none = refl
 held-first fieldKinds false (some f) = refl
 
 module _ (fields : ℕ) (f : List ℕ) (at : ℕ) (s : Step) (h : StepAt fields f at s) (fieldKinds : List Kind) (rising : List Bool)
-    (mark : (g : ℕ) → getD rising g false ≡ rises fieldKinds g) (ls : List (List ℕ)) (c : Configuration) (r : Ready c) (fresh : List Bool) (event : List ℕ)
+    (mark : (g : ℕ) → getD rising g false ≡ rises fieldKinds g) (ls : List (List ℕ)) (c : Configuration) (r : Ready c) (fresh : List Bool) (event : Values)
     (k : Carries fields ls c event fresh) where
+  -- the fields that rise and are there
+  abbrev kinds : List Kind
+  kinds = kindsIn fieldKinds event
+
+  mark-in : (g : ℕ) → (getD rising g false && present event g) ≡ rises kinds g
+  mark-in g = ap (λ b. b && present event g) (mark g) ∙ sym (rises-in fieldKinds event g)
+
   -- the variables that the walk marks as growing are those that the definition calls rising
   walk-grows : (v : ℕ) → v < 8
-      → getD ((walked f at c rising event) .grows) v false ≡ (isHeld (configOf ls c) v || fieldRises fieldKinds (firstBind (s .clauses) v))
+      → getD ((walked f at c rising event) .grows) v false ≡ (isHeld (configOf ls c) v || fieldRises kinds (firstBind (s .clauses) v))
   unfolding begun
   walk-grows v small =
       ap (λ (w : Walked). getD (w .grows) v false) (walked-encode fields f at s h c rising event)
-      ∙ grown f fieldKinds rising mark (c .values) event v small (s .clauses) (begun at c) (record { held-8 = r .held-8; grows-8 = r .held-8 })
-      ∙ held-first fieldKinds (getD (c .held) v false) (firstBind (s .clauses) v)
+      ∙ grown f kinds rising (c .values) event mark-in v small (s .clauses) (begun at c) (record { held-8 = r .held-8; grows-8 = r .held-8 })
+      ∙ held-first kinds (getD (c .held) v false) (firstBind (s .clauses) v)
 
   -- and so for the lists
   lists-judged : (v : ℕ) → v < 4
-      → (getD ((gained f at (c .tallies) fresh rising event) .rising) v false ≡ gathersRising fieldKinds (s .clauses) v)
+      → (getD ((gained f at (c .tallies) fresh rising event) .rising) v false ≡ gathersRising kinds (s .clauses) v)
       × (getD ((gained f at (c .tallies) fresh rising event) .unchanged) v false ≡ not (gathers (s .clauses) v))
   unfolding kept
   lists-judged v small =
-      let j = judged f fieldKinds fresh rising mark event v small (s .clauses) (kept (c .tallies)) refl refl in
+      let j = judged f kinds fresh rising event mark-in v small (s .clauses) (kept (c .tallies)) refl refl in
       let t = getD-replicate 4 v true false small in
       rw (gained-encode fields f at s h (c .tallies) fresh rising event) (
-        j .all-rise ∙ ap (λ b. b && gathersRising fieldKinds (s .clauses) v) t,
+        j .all-rise ∙ ap (λ b. b && gathersRising kinds (s .clauses) v) t,
         j .none-in ∙ ap (λ b. b && not (gathers (s .clauses) v)) t,
       )
 
-  -- the guard behind the walk is falling exactly where the step's guard is
+  -- the guard behind the walk is falling exactly where the step's guard is, with fields that never arrived counted as plain
   falls-encode : (g : Option Expr) (p : ℕ) → drop p f ≡ guardBytes g ++ h .after → All (Exists fields) (guardCommands g) → GuardFits g
       → fallsBehind f p (c .held) ((walked f at c rising event) .grows) (gained f at (c .tallies) fresh rising event)
-      ≡ guardFalls fieldKinds (configOf ls c) (s .clauses) g
+      ≡ guardFalls kinds (configOf ls c) (s .clauses) g
   unfolding fallsAt guardCommands
   falls-encode none p e x y =
       let b : getD f p 0 ≡ getD (h .after) 0 0 = first-byte f (h .after) p e in
@@ -177,10 +201,10 @@ module _ (fields : ℕ) (f : List ℕ) (at : ℕ) (s : Step) (h : StepAt fields 
       let l = gained f at (c .tallies) fresh rising event in
       let ks = s .clauses in
       let same : (v : ℕ) → v < 4 → getD (l .unchanged) v false ≡ not (gathers ks v) = λ v i. lists-judged v i .1 in
-      let up = marked-rises fieldKinds (configOf ls c) ks (growing (w .grows) l) same walk-grows (λ v i. lists-judged v i .0) in
-      let down = marked-falls fieldKinds (configOf ls c) ks (falling (c .held) l) same refl same in
+      let up = marked-rises kinds (configOf ls c) ks (growing (w .grows) l) same walk-grows (λ v i. lists-judged v i .0) in
+      let down = marked-falls kinds (configOf ls c) ks (falling (c .held) l) same refl same in
       let j =
-      judge-encode fieldKinds (configOf ls c) ks LeafExists (leafMarked (growing (w .grows) l)) (leafMarked (falling (c .held) l)) up down g 8 (x .0)
+      judge-encode kinds (configOf ls c) ks LeafExists (leafMarked (growing (w .grows) l)) (leafMarked (falling (c .held) l)) up down g 8 (x .0)
       (y .1) in
       rw (b, d, j .is-falling (h .after))
 
@@ -193,4 +217,13 @@ module _ (fields : ℕ) (f : List ℕ) (at : ℕ) (s : Step) (h : StepAt fields 
       let x = guard-exists fields (s .clauses) (s .guard) (parts-exist fields f at s h) in
       let p = falls-encode (s .guard) ((walked f at c rising event) .at) (walked-ends fields f at s h c rising event) x (h .fits .guard) in
       let i = lt-leb (length f) at (inside fields f at s h) in
-      rw (i, a .overdue, p, g)
+      let q = falls-in fieldKinds event (configOf ls c) (s .clauses) (s .guard) in
+      rw (
+        i,
+        a .overdue,
+        p,
+        g,
+        q,
+        and-assoc (guardFalls fieldKinds (configOf ls c) (s .clauses) (s .guard)) (guardKnown (configOf ls c) (s .clauses) event (s .guard))
+            (not (guardHolds (leave (configOf ls c) s event) (s .guard))),
+      )

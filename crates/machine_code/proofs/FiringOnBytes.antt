@@ -10,7 +10,7 @@ use lib.ListN.{length, getD, drop, set, replicate, length-drop, length-append}
 use lib.Seq.{set-out}
 use Rattle.base.proofs.Lists.{replicate-at}
 use Rattle.base.specs.Lists.{All}
-use Rattle.event_log.specs.Log.{Kind}
+use Rattle.event_log.specs.Log.{Kind, Values}
 use Rattle.formula.specs.Formula.{Expr, Clause, Step, Formula}
 use Rattle.formula.specs.Encode.{CLAUSE, encodeExpr, encodeClause, encodeCommand, guardCommands, stepCommands}
 use Rattle.machine_code.specs.declared.Configuration.{Configuration}
@@ -28,7 +28,7 @@ use Rattle.machine.specs.Expiry.{rises}
 use Rattle.guard_code.specs.inner.Bytes.{leafValue, guardAt}
 use Rattle.machine_code.specs.inner.Bytes.{walked, kept, gained, raised, leaving, guardBehind, fired, begun, isClause, configOf}
 use Rattle.machine.proofs.Configurations.{counter-le-total, add-one-set}
-use Rattle.machine.proofs.Walk.{fires-walk}
+use Rattle.machine.proofs.Walk.{fires-walk, clauses-exist}
 use Rattle.machine.proofs.Gathering.{length-gather-all}
 use Rattle.machine.proofs.Carried.{carried}
 use Rattle.runs.proofs.Moves.{and-both}
@@ -46,13 +46,13 @@ pub raised-in : (counters : List ℕ) (s n : ℕ) → n ≡ min (getD counters s
 unfolding raised
 raised-in counters s n e = rw e
 
-pub fired-out : (f : List ℕ) (at : ℕ) (c : Configuration) (fresh : List Bool) (event : List ℕ) → length f ≤ at
+pub fired-out : (f : List ℕ) (at : ℕ) (c : Configuration) (fresh : List Bool) (event : Values) → length f ≤ at
     → record { fires = false; config = c } ≡ fired f at c fresh event
 unfolding fired
 fired-out f at c fresh event h = rw (le-leb (length f) at h)
 
 -- inside the file: the guard decides where every test passes
-module _ (f : List ℕ) (at : ℕ) (c : Configuration) (fresh : List Bool) (event : List ℕ) (w : Walked) (in-file : at < length f)
+module _ (f : List ℕ) (at : ℕ) (c : Configuration) (fresh : List Bool) (event : Values) (w : Walked) (in-file : at < length f)
     (walk : w ≡ walked f at c (replicate 8 false) event) where
   pub fired-failed : w .passes ≡ false → record { fires = false; config = c } ≡ fired f at c fresh event
   unfolding fired
@@ -107,7 +107,7 @@ ready states ls c v h k = record {
 }
 
 -- The lists of the configuration, what it holds of them, and what is known of the values that a step would gather.
-pub record Carries (fields : ℕ) (ls : List (List ℕ)) (c : Configuration) (event : List ℕ) (fresh : List Bool) : Type 0 where
+pub record Carries (fields : ℕ) (ls : List (List ℕ)) (c : Configuration) (event : Values) (fresh : List Bool) : Type 0 where
   pub few : fields ≤ 8
   pub four : length ls ≡ 4
   pub short : (v : ℕ) → v < 4 → length (listOf ls v) < 4294967295
@@ -119,11 +119,6 @@ unfolding raised
 raised-one c r =
     let e : min (getD (c .counters) (c .state) 0 + 1) 4294967295 ≡ getD (c .counters) (c .state) 0 + 1 = omega (arith, r .below) in
     rw (e, add-one-set (c .counters) (c .state) (omega (arith, r .counters-16, r .declared)))
-
-pub clauses-exist : (m : ℕ) (ks : List Clause) (g : Option Expr) → All (Exists m) (map CLAUSE ks ++ guardCommands g)
-    → All (λ (k : Clause). Exists m (CLAUSE k)) ks
-clauses-exist m [] g h = tt
-clauses-exist m (k ∷ ks) g h = (h .0, clauses-exist m ks g (h .1))
 
 pub guard-exists : (m : ℕ) (ks : List Clause) (g : Option Expr) → All (Exists m) (map CLAUSE ks ++ guardCommands g) → All (Exists m) (guardCommands g)
 guard-exists m [] g h = h
@@ -162,7 +157,7 @@ module _ (fields : ℕ) (f : List ℕ) (at : ℕ) (s : Step) (h : StepAt fields 
   parts-exist = h .exist .1
 
   -- the walk over the step's bytes is the walk over its clauses
-  pub walked-encode : (c : Configuration) (rising : List Bool) (event : List ℕ)
+  pub walked-encode : (c : Configuration) (rising : List Bool) (event : Values)
       → walked f at c rising event ≡ walkOf f (c .values) rising event (begun at c) (s .clauses)
   unfolding walked begun
   walked-encode c rising event =
@@ -170,7 +165,7 @@ module _ (fields : ℕ) (f : List ℕ) (at : ℕ) (s : Step) (h : StepAt fields 
       (clauses-end (s .guard)) (clauses-exist fields (s .clauses) (s .guard) parts-exist) clauses-fit
 
   -- and it ends where the guard begins
-  pub walked-ends : (c : Configuration) (rising : List Bool) (event : List ℕ)
+  pub walked-ends : (c : Configuration) (rising : List Bool) (event : Values)
       → drop ((walked f at c rising event) .at) f ≡ guardBytes (s .guard) ++ h .after
   unfolding begun
   walked-ends c rising event =
@@ -178,14 +173,14 @@ module _ (fields : ℕ) (f : List ℕ) (at : ℕ) (s : Step) (h : StepAt fields 
       ∙ walk-ends f (c .values) rising event (begun at c) (s .clauses) (guardBytes (s .guard) ++ h .after) behind-step
 
   -- The walk finds the guard of step k of state i: it ends at the guard's place.
-  pub walked-place : (formula : Formula) (i k : ℕ) → at ≡ stepPlace formula i k → (c : Configuration) (rising : List Bool) (event : List ℕ)
+  pub walked-place : (formula : Formula) (i k : ℕ) → at ≡ stepPlace formula i k → (c : Configuration) (rising : List Bool) (event : Values)
       → (walked f at c rising event) .at ≡ guardPlace formula i k s
   unfolding begun guardPlace
   walked-place formula i k e c rising event =
       omega (arith, e, ap (λ (w : Walked). w .at) (walked-encode c rising event), walk-at f (c .values) rising event (begun at c) (s .clauses))
 
   -- what its bytes gather is what its clauses do
-  pub gained-encode : (ts : List ℕ) (fresh rising : List Bool) (event : List ℕ)
+  pub gained-encode : (ts : List ℕ) (fresh rising : List Bool) (event : Values)
       → gained f at ts fresh rising event ≡ gainAll f fresh rising event (kept ts) (s .clauses)
   unfolding gained
   gained-encode ts fresh rising event =
@@ -208,7 +203,7 @@ module _ (fields : ℕ) (f : List ℕ) (at : ℕ) (s : Step) (h : StepAt fields 
 
   -- the walk over the step's bytes binds, passes and is due as the definition says
   pub walked-along : (fieldKinds : List Kind) (rising : List Bool) → ((g : ℕ) → getD rising g false ≡ rises fieldKinds g)
-      → (ls : List (List ℕ)) (c : Configuration) (event : List ℕ)
+      → (ls : List (List ℕ)) (c : Configuration) (event : Values)
       → Along fieldKinds (configOf ls c) (configOf ls c) event (s .clauses) (begun at c) (walked f at c rising event)
   unfolding begun
   walked-along fieldKinds rising kept ls c event =
@@ -216,7 +211,7 @@ module _ (fields : ℕ) (f : List ℕ) (at : ℕ) (s : Step) (h : StepAt fields 
       (along f fieldKinds rising kept (configOf ls c) event (s .clauses) (configOf ls c) (begun at c) (record { held = refl; values = refl }))
 
   -- its bytes leave the tallies of the lists with what the clauses gather
-  pub gained-tallies : (ls : List (List ℕ)) (c : Configuration) (fresh rising : List Bool) (event : List ℕ) → Carries fields ls c event fresh
+  pub gained-tallies : (ls : List (List ℕ)) (c : Configuration) (fresh rising : List Bool) (event : Values) → Carries fields ls c event fresh
       → (gained f at (c .tallies) fresh rising event) .tallies ≡ tallies (gatherAll ls event (s .clauses))
   unfolding kept
   gained-tallies ls c fresh rising event k =
@@ -225,7 +220,7 @@ module _ (fields : ℕ) (f : List ℕ) (at : ℕ) (s : Step) (h : StepAt fields 
       (carried fields event ls fresh (k .few) (k .new) (k .short) (s .clauses) (k .four) (h .fits .once) x)
 
   -- the guard behind the walk, with what it has bound, what is gathered and the counters raised, is the step's guard in the configuration that it leaves
-  pub guard-left : (ls : List (List ℕ)) (c : Configuration) (fresh rising : List Bool) (event : List ℕ) → Ready c → Carries fields ls c event fresh
+  pub guard-left : (ls : List (List ℕ)) (c : Configuration) (fresh rising : List Bool) (event : Values) → Ready c → Carries fields ls c event fresh
       → Agrees (walked f at c rising event) (bindAll (configOf ls c) event (s .clauses))
       → guardBehind f (walked f at c rising event) (raised (c .counters) (c .state)) ((gained f at (c .tallies) fresh rising event) .tallies)
       ≡ guardHolds (leave (configOf ls c) s event) (s .guard)
@@ -238,19 +233,19 @@ module _ (fields : ℕ) (f : List ℕ) (at : ℕ) (s : Step) (h : StepAt fields 
       rw (a .values, raised-one c r, gained-tallies ls c fresh rising event k) g
 
 -- A step's bytes fire exactly where the step does, and then leave the configuration that it leaves, with the tallies of its lists.
-pub record FiresAs (f : List ℕ) (at : ℕ) (ls : List (List ℕ)) (c : Configuration) (s : Step) (fresh : List Bool) (event : List ℕ) : Type 0 where
+pub record FiresAs (f : List ℕ) (at : ℕ) (ls : List (List ℕ)) (c : Configuration) (s : Step) (fresh : List Bool) (event : Values) : Type 0 where
   pub fires-as : (fired f at c fresh event) .fires ≡ fires (configOf ls c) s event
   pub leaves-as : (fired f at c fresh event) .fires ≡ true
       → configOf (gatherAll ls event (s .clauses)) ((fired f at c fresh event) .config) ≡ leave (configOf ls c) s event
   pub tallied : (fired f at c fresh event) .fires ≡ true → (fired f at c fresh event) .config .tallies ≡ tallies (gatherAll ls event (s .clauses))
 
 -- one that fires passes
-fired-passes : (f : List ℕ) (at : ℕ) (c : Configuration) (fresh : List Bool) (event : List ℕ) → at < length f → (fired f at c fresh event) .fires ≡ true
+fired-passes : (f : List ℕ) (at : ℕ) (c : Configuration) (fresh : List Bool) (event : Values) → at < length f → (fired f at c fresh event) .fires ≡ true
     → (walked f at c (replicate 8 false) event) .passes ≡ true
 unfolding fired
 fired-passes f at c fresh event h q = and-both _ _ (rw (lt-leb (length f) at h) at q) .0
 
-module _ (fields : ℕ) (f : List ℕ) (at : ℕ) (ls : List (List ℕ)) (c : Configuration) (s : Step) (fresh : List Bool) (event : List ℕ)
+module _ (fields : ℕ) (f : List ℕ) (at : ℕ) (ls : List (List ℕ)) (c : Configuration) (s : Step) (fresh : List Bool) (event : Values)
     (h : StepAt fields f at s) (r : Ready c) (k : Carries fields ls c event fresh) where
   pub fire-encode : FiresAs f at ls c s fresh event
   unfolding fired leave begun

@@ -9,8 +9,8 @@ use lib.ListN.{length, getD, drop, set, length-set}
 use lib.Seq.{getD-set-same, getD-set-other}
 use lib.Dec.{eqb}
 use Rattle.base.specs.Lists.{All}
-use Rattle.base.proofs.Tests.{and-false}
-use Rattle.event_log.specs.Log.{Kind}
+use Rattle.base.proofs.Tests.{and-false, and-end}
+use Rattle.event_log.specs.Log.{Kind, Values, present, field}
 use Rattle.formula.specs.Formula.{Clause, TEST, TESTV, BIND, GATHER}
 use Rattle.formula.specs.Encode.{CLAUSE, listByte, encodeClause}
 use Rattle.formula.specs.Correct.{Exists}
@@ -19,11 +19,11 @@ use Rattle.machine.specs.inner.Along.{tallyAdd, carryAll}
 use Rattle.machine_code.specs.declared.Configuration.{Configuration}
 use Rattle.machine_code.specs.declared.Gained.{Gained}
 use Rattle.machine_code.specs.declared.Walked.{Walked}
-use Rattle.machine_code.specs.inner.Bytes.{isClause, widthOf, tested, holding, bound, noted, clauseAt, walkFrom, begun, walked}
+use Rattle.machine_code.specs.inner.Bytes.{isClause, widthOf, tested, holding, bound, noted, met, clauseOn, clauseAt, walkFrom, begun, walked}
 use Rattle.machine_code.specs.inner.Bytes.{kept, gaining, gathered, gainAt, gainFrom, gained}
 use Rattle.machine_code.proofs.ClausesOnBytes.{either, clause-inside}
 use Rattle.machine_code.proofs.EventAlone.{clause-keeps, walk-keeps, clause-place, clause-width}
-use Rattle.machine_code.proofs.WalkOnBytes.{byte-from, first-byte, drop-more, is-clause, width-encode, and-end}
+use Rattle.machine_code.proofs.WalkOnBytes.{byte-from, first-byte, drop-more, is-clause, width-encode}
 
 -- a GATHER into a list that is not there, and into one that is
 pub gather-out : (g : Gained) (k o x l : ℕ) (r : Bool) (fresh : List Bool) → l ≡ o - 8 → 4 ≤ l → g ≡ gathered g k o x r fresh
@@ -42,23 +42,23 @@ unfolding gaining
 gather-made g k o x l r n p fresh ts e h f t q = rw (← gather-in g k o x l r fresh e h, ← f, ← t, ← q)
 
 -- the clause at a place as the code reads it
-module _ (f : List ℕ) (fresh rises : List Bool) (event : List ℕ) (p : ℕ) (g : Gained) (c : ℕ) (command : c ≡ getD f p 0) where
+module _ (f : List ℕ) (fresh rises : List Bool) (event : Values) (p : ℕ) (g : Gained) (c : ℕ) (command : c ≡ getD f p 0) where
   pub gain-other : (c ≡ 0x17 → ⊥) → g ≡ gainAt f fresh rises event p g
   unfolding gainAt
   gain-other n = rw (← command, ne-eqb c 0x17 n)
 
-  pub gain-here : (field o x : ℕ) (r : Bool) (d : Gained) → c ≡ 0x17 → field ≡ getD f (p + 1) 0 → o ≡ getD f (p + 2) 0 → x ≡ getD event field 0
-      → r ≡ getD rises field false → d ≡ gathered g field o x r fresh → d ≡ gainAt f fresh rises event p g
+  pub gain-here : (k o x : ℕ) (r : Bool) (d : Gained) → c ≡ 0x17 → k ≡ getD f (p + 1) 0 → o ≡ getD f (p + 2) 0 → x ≡ field event k
+      → r ≡ (getD rises k false && present event k) → d ≡ gathered g k o x r fresh → d ≡ gainAt f fresh rises event p g
   unfolding gainAt
-  gain-here field o x r d h e₁ e₂ e₃ e₄ q = rw (← command, h, ← e₁, ← e₂, ← e₃, ← e₄) q
+  gain-here k o x r d h e₁ e₂ e₃ e₄ q = rw (← command, h, ← e₁, ← e₂, ← e₃, ← e₄) q
 
 -- what is left of the clauses of a step from a place on: with so much fuel, which the bytes left do not use up, it gives the whole
-pub record Left (f : List ℕ) (fresh rises : List Bool) (event : List ℕ) (whole : Gained) (place : ℕ) (g : Gained) : Type 0 where
+pub record Left (f : List ℕ) (fresh rises : List Bool) (event : Values) (whole : Gained) (place : ℕ) (g : Gained) : Type 0 where
   pub fuel : ℕ
   pub enough : length f < fuel + place
   pub is : whole ≡ gainFrom fuel f fresh rises event place g
 
-module _ (f : List ℕ) (fresh rises : List Bool) (event : List ℕ) where
+module _ (f : List ℕ) (fresh rises : List Bool) (event : Values) where
   pub left-start : (p : ℕ) (g : Gained) → Left f fresh rises event (gainFrom (suc (length f)) f fresh rises event p g) p g
   left-start p g = record { fuel = suc (length f); enough = omega arith; is = refl }
 
@@ -92,6 +92,10 @@ module _ (f : List ℕ) (fresh rises : List Bool) (event : List ℕ) where
 abbrev Gathering : Walked → Type 0
 Gathering w = w .gathers ≡ true
 
+met-gathers : (w : Walked) (p : Bool) → Gathering w → Gathering (met w p)
+unfolding met
+met-gathers w p h = h
+
 tested-gathers : (w : Walked) (next o x y : ℕ) (r : Bool) → Gathering w → Gathering (tested w next o x y r)
 unfolding tested
 tested-gathers w next o x y r h = h
@@ -104,15 +108,14 @@ bound-gathers : (w : Walked) (next v x : ℕ) (r : Bool) → Gathering w → Gat
 unfolding bound holding
 bound-gathers w next v x r h = either Gathering (getD (w .held) v false) w _ h h
 
-module _ (f prior : List ℕ) (fresh rises : List Bool) (event : List ℕ) where
+module _ (f prior : List ℕ) (fresh rises : List Bool) (event : Values) where
   walk-gathers : (n : ℕ) (w : Walked) → w .gathers ≡ true → (walkFrom n f prior rises event w) .gathers ≡ true
   walk-gathers =
       walk-keeps f prior rises event Gathering
-      (λ w h. clause-keeps f prior rises event Gathering w (λ n o x y r. tested-gathers w n o x y r h) (λ n. noted-gathers w n)
-      (λ n v x r. bound-gathers w n v x r h))
+      (clause-keeps Gathering met-gathers tested-gathers (λ w n h. noted-gathers w n) bound-gathers f prior rises event)
 
   gather-noted : (w : Walked) → eqb (getD f (w .at) 0) 0x17 ≡ true → (clauseAt f prior rises event w) .gathers ≡ true
-  unfolding clauseAt noted
+  unfolding clauseAt clauseOn met noted
   gather-noted w e = let c : getD f (w .at) 0 ≡ 0x17 = eqb-true (getD f (w .at) 0) 0x17 e in rw c
 
   -- where the walk meets no GATHER, nothing is gathered
@@ -139,7 +142,7 @@ module _ (f prior : List ℕ) (fresh rises : List Bool) (event : List ℕ) where
       go false e k ih = refl
 
 -- so the code need not look for GATHERs where the walk met none
-pub gains-by : (f : List ℕ) (at : ℕ) (c : Configuration) (fresh rises : List Bool) (event : List ℕ) (w : Walked) (g : Gained)
+pub gains-by : (f : List ℕ) (at : ℕ) (c : Configuration) (fresh rises : List Bool) (event : Values) (w : Walked) (g : Gained)
     → w ≡ walked f at c rises event → g ≡ cond (w .gathers) (gained f at (c .tallies) fresh rises event) (kept (c .tallies))
     → g ≡ gained f at (c .tallies) fresh rises event
 unfolding walked gained begun
@@ -153,13 +156,13 @@ gains-by f at c fresh rises event w g e h = go (w .gathers) refl h
         ∙ sym
         (none-gathered f (c .values) fresh rises event (suc (length f)) (begun at c) (kept (c .tallies)) (sym (ap (λ (v : Walked). v .gathers) e) ∙ q))
 
-module _ (f : List ℕ) (fresh rising : List Bool) (event : List ℕ) where
+module _ (f : List ℕ) (fresh rising : List Bool) (event : Values) where
   -- what a clause adds
   abbrev pub gainOf : Gained → Clause → Gained
   gainOf g (TEST k o y) = g
   gainOf g (TESTV k o u) = g
   gainOf g (BIND k u) = g
-  gainOf g (GATHER k v) = gaining g v (getD event k 0) (getD rising k false) (getD fresh (v * 8 + k) false)
+  gainOf g (GATHER k v) = gaining g v (field event k) (getD rising k false && present event k) (getD fresh (v * 8 + k) false)
 
   abbrev pub gainAll : Gained → List Clause → Gained
   gainAll g [] = g
@@ -172,8 +175,8 @@ module _ (f : List ℕ) (fresh rising : List Bool) (event : List ℕ) where
   gain-clause m p g (TESTV k o u) l h v = sym (gain-other f fresh rising event p g 0x13 (sym (first-byte f _ p h)) (λ e. omega arith))
   gain-clause m p g (BIND k u) l h v = sym (gain-other f fresh rising event p g 0x14 (sym (first-byte f _ p h)) (λ e. omega arith))
   gain-clause m p g (GATHER k u) l h v =
-      let x = getD event k 0 in
-      let r = getD rising k false in
+      let x = field event k in
+      let r = getD rising k false && present event k in
       sym
       (gain-here f fresh rising event p g 0x17 (sym (first-byte f _ p h)) k (listByte u) x r _ refl (sym (byte-from f _ p 1 h))
       (sym (byte-from f _ p 2 h)) refl refl (gather-in g k (listByte u) x u r fresh (omega arith) (v .1)))
@@ -210,8 +213,8 @@ set-at l u v b h true q = let p : u ≡ v = eqb-true u v q in rw p (getD-set-sam
 set-at l u v b h false q = getD-set-other l u v b false (λ r. eqb-false u v q (sym r))
 
 -- the lists into which every field gathered is rising, and those into which none is gathered
-module _ (f : List ℕ) (fieldKinds : List Kind) (fresh rising : List Bool) (mark : (g : ℕ) → getD rising g false ≡ rises fieldKinds g) (event : List ℕ)
-    (v : ℕ) (small : v < 4) where
+module _ (f : List ℕ) (fieldKinds : List Kind) (fresh rising : List Bool) (event : Values)
+    (mark : (g : ℕ) → (getD rising g false && present event g) ≡ rises fieldKinds g) (v : ℕ) (small : v < 4) where
   pub record Judged (ks : List Clause) (w r : Gained) : Type 0 where
     pub all-rise : getD (r .rising) v false ≡ (getD (w .rising) v false && gathersRising fieldKinds ks v)
     pub none-in : getD (r .unchanged) v false ≡ (getD (w .unchanged) v false && not (gathers ks v))
@@ -244,7 +247,7 @@ module _ (f : List ℕ) (fieldKinds : List Kind) (fresh rising : List Bool) (mar
       record {
         all-rise =
             i .all-rise
-            ∙ rise-more (w .rising) u (getD rising g false) (gathersRising fieldKinds ks v) a
+            ∙ rise-more (w .rising) u (getD rising g false && present event g) (gathersRising fieldKinds ks v) a
             ∙ ap (λ (r : Bool). getD (w .rising) v false && (cond (eqb u v) r true && gathersRising fieldKinds ks v)) (mark g);
         none-in = i .none-in ∙ none-more (w .unchanged) u (gathers ks v) b;
       }

@@ -9,3 +9,4 @@ pub mod StepsByNumber
 pub mod SameMachine
 pub mod Offsets
 pub mod TableAlone
+pub mod OneField

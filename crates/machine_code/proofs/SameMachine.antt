@@ -8,14 +8,14 @@ use native.Mathlib.Omega.{arith}
 use borrow.Author.Tests.{lt-ltb, ne-eqb, eqb-true, eqb-false}
 use lib.ListN.{length, getD}
 use lib.Dec.{eqb}
-use Rattle.event_log.specs.Log.{Log, eventAt}
+use Rattle.event_log.specs.Log.{Log, eventAt, Values}
 use Rattle.event_log.specs.Latest.{latest}
 use Rattle.formula.specs.Formula.{Step, Formula}
 use Rattle.formula.specs.Lookup.{stepAt}
 use Rattle.runs.specs.inner.Search.{anyAlive}
 use Rattle.machine_code.specs.declared.Configuration.{Configuration}
 use Rattle.machine.specs.Configuration.{Config}
-use Rattle.machine.specs.Firing.{field, gatherAll}
+use Rattle.machine.specs.Firing.{gatherAll}
 use Rattle.machine.specs.Expiry.{rises}
 use Rattle.machine.specs.Machine.{fireBy, fireAt, expiredBy, expiredAt, machine}
 use Rattle.machine_code.specs.inner.Bytes.{fired, lapsed, configOf, offsetOf, isStep, firesAt, expiresAt, lowestFrom, lowestOf, aliveBelow}
@@ -47,7 +47,7 @@ step-there fields f at s h k = rw (ne-eqb at 0 (λ e. omega arith), lt-ltb at (l
 
 module _ (fields : ℕ) (f : List ℕ) (ls : List (List ℕ)) (c : Configuration) (r : Ready c) (fresh : List Bool) where
   -- what is at an offset fires as the step does
-  fires-by : (o : Option Step) (at : ℕ) (event : List ℕ) → Carries fields ls c event fresh → StepThere fields f at o
+  fires-by : (o : Option Step) (at : ℕ) (event : Values) → Carries fields ls c event fresh → StepThere fields f at o
       → (isStep f at && (fired f at c fresh event) .fires) ≡ isFired (fireBy o (configOf ls c) event)
   unfolding isStep
   fires-by none at event k h = rw h
@@ -57,7 +57,7 @@ module _ (fields : ℕ) (f : List ℕ) (ls : List (List ℕ)) (c : Configuration
 
   -- and is expired as the step is
   expires-by : (log : Log) (rising : List Bool) → ((g : ℕ) → getD rising g false ≡ rises (log .fields) g)
-      → (o : Option Step) (at : ℕ) (event : List ℕ) → Carries fields ls c event fresh → StepThere fields f at o
+      → (o : Option Step) (at : ℕ) (event : Values) → Carries fields ls c event fresh → StepThere fields f at o
       → (not (isStep f at) || lapsed f at c fresh rising event) ≡ expiredBy (log .fields) o (configOf ls c) event
   unfolding isStep
   expires-by log rising mark none at event k h = rw h
@@ -68,7 +68,7 @@ module _ (fields : ℕ) (f : List ℕ) (ls : List (List ℕ)) (c : Configuration
 module _ (log : Log) (formula : Formula) (fields : ℕ) (f table : List ℕ) (chart : Charted fields formula f table)
     (ls : List (List ℕ)) (c : Configuration) (r : Ready c) (n : ℕ) (fresh : List Bool) where
   -- on an event whose fields the code holds
-  module _ (event : List ℕ) (lists : Carries fields ls c event fresh) (held : (g : ℕ) → field event g ≡ field ((eventAt log n) .values) g) where
+  module _ (event : Values) (lists : Carries fields ls c event fresh) (held : (g : ℕ) → getD event g none ≡ getD ((eventAt log n) .values) g none) where
     same-fire : (o : Option Step) → fireBy o (configOf ls c) event ≡ fireBy o (configOf ls c) ((eventAt log n) .values)
     same-fire none = refl
     same-fire (some s) = fire-fields event ((eventAt log n) .values) held (configOf ls c) s
@@ -81,11 +81,11 @@ module _ (log : Log) (formula : Formula) (fields : ℕ) (f table : List ℕ) (ch
         ∙ ap isFired (same-fire (stepAt formula (c .state) k))
 
   -- by the latest values of the fields, where the code holds them
-  module _ (x : List ℕ) (lists : Carries fields ls c x fresh) (held : (g : ℕ) → field x g ≡ field (latest log n) g) (rising : List Bool)
+  module _ (x : Values) (lists : Carries fields ls c x fresh) (held : (g : ℕ) → getD x g none ≡ getD (latest log (suc n)) g none) (rising : List Bool)
       (mark : (g : ℕ) → getD rising g false ≡ rises (log .fields) g) where
-    same-expired : (o : Option Step) → expiredBy (log .fields) o (configOf ls c) x ≡ expiredBy (log .fields) o (configOf ls c) (latest log n)
+    same-expired : (o : Option Step) → expiredBy (log .fields) o (configOf ls c) x ≡ expiredBy (log .fields) o (configOf ls c) (latest log (suc n))
     same-expired none = refl
-    same-expired (some s) = expired-fields x (latest log n) held (log .fields) (configOf ls c) s
+    same-expired (some s) = expired-fields x (latest log (suc n)) held (log .fields) (configOf ls c) s
 
     -- Step k is expired in the code exactly where it is expired in the machine.
     pub expires-machine : (k : ℕ) → k < 8 → expiresAt f table c fresh rising x k ≡ expiredAt log formula (configOf ls c) k n
@@ -130,8 +130,8 @@ lowest-means p = lowest-from p 0 8 (omega arith) (λ j l. absurd (omega arith))
 
 -- "the lowest numbered step that fires": the code's answer is the machine's lowest step that fires, 8 where none does.
 pub lowest-machine : (log : Log) (formula : Formula) (fields : ℕ) (f table : List ℕ) → Charted fields formula f table
-    → (ls : List (List ℕ)) (c : Configuration) → Ready c → (n : ℕ) (fresh : List Bool) (event : List ℕ) → Carries fields ls c event fresh
-    → ((g : ℕ) → field event g ≡ field ((eventAt log n) .values) g)
+    → (ls : List (List ℕ)) (c : Configuration) → Ready c → (n : ℕ) (fresh : List Bool) (event : Values) → Carries fields ls c event fresh
+    → ((g : ℕ) → getD event g none ≡ getD ((eventAt log n) .values) g none)
     → Lowest (λ k. isFired (fireAt log formula (configOf ls c) n k)) (lowestOf (firesAt f table c fresh event))
 lowest-machine log formula fields f table chart ls c r n fresh event lists held =
     let l = lowest-means (firesAt f table c fresh event) in

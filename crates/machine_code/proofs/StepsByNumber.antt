@@ -9,6 +9,7 @@ use borrow.Author.Tests.{le-leb, lt-leb, ltb-true, eq-eqb, ne-eqb, eqb-true, eqb
 use lib.ListN.{length, getD, replicate, List·getD-eq-default}
 use lib.Dec.{eqb, ltb}
 use Rattle.base.proofs.Tests.{or-right}
+use Rattle.event_log.specs.Log.{Values}
 use Rattle.machine_code.specs.declared.Configuration.{Configuration}
 use Rattle.machine_code.specs.declared.Gained.{Gained}
 use Rattle.machine_code.specs.declared.Walked.{Walked}
@@ -89,7 +90,7 @@ module _ (p : ℕ → Bool) where
   alive-here k h e = sym (alive-below k 8 h e)
 
 -- how one step of the search ends
-module _ (f table : List ℕ) (c : Configuration) (fresh : List Bool) (event : List ℕ) (k at : ℕ) (place : at ≡ offsetOf table (c .state) k) where
+module _ (f table : List ℕ) (c : Configuration) (fresh : List Bool) (event : Values) (k at : ℕ) (place : at ≡ offsetOf table (c .state) k) where
   pub fires-absent : isStep f at ≡ false → firesAt f table c fresh event k ≡ false
   unfolding firesAt
   fires-absent h = rw (← place, h)
@@ -122,7 +123,7 @@ module _ (f table : List ℕ) (c : Configuration) (fresh : List Bool) (event : L
         fires-fired ∙ rw (← i, ← p, h, ← n, ← e) q
 
 -- a step is expired where it is not there, and else where it lapses
-module _ (f table : List ℕ) (c : Configuration) (fresh rises : List Bool) (latest : List ℕ) (k at : ℕ) (place : at ≡ offsetOf table (c .state) k) where
+module _ (f table : List ℕ) (c : Configuration) (fresh rises : List Bool) (latest : Values) (k at : ℕ) (place : at ≡ offsetOf table (c .state) k) where
   pub expires-absent : isStep f at ≡ false → expiresAt f table c fresh rises latest k ≡ true
   unfolding expiresAt
   expires-absent h = rw (← place, h)

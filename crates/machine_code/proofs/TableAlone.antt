@@ -8,11 +8,12 @@ use native.Mathlib.Omega.{arith}
 use lib.ListN.{length, getD, drop, replicate}
 use lib.Seq.{getD-drop, drop-drop}
 use Rattle.base.specs.Value.{valueAt}
+use Rattle.event_log.specs.Log.{Values}
 use Rattle.machine_code.specs.declared.Configuration.{Configuration}
 use Rattle.machine_code.specs.declared.Gained.{Gained}
 use Rattle.machine_code.specs.declared.Walked.{Walked}
 use Rattle.guard_code.specs.inner.Bytes.{guardAt, fallsAt}
-use Rattle.machine_code.specs.inner.Bytes.{isClause, widthOf, clauseAt, walkFrom, begun, walked, gainAt, gainFrom, gained, fired, lapsed}
+use Rattle.machine_code.specs.inner.Bytes.{isClause, widthOf, met, clauseOn, clauseAt, walkFrom, begun, walked, gainAt, gainFrom, gained, fired, lapsed}
 use Rattle.machine_code.specs.inner.Bytes.{offsetOf, isStep, firesAt, expiresAt}
 use Rattle.machine_code.proofs.EventAlone.{clause-width, clause-place}
 
@@ -33,9 +34,9 @@ module _ (f g : List ℕ) (n : ℕ) (long : length f ≡ length g) (rest : drop 
   value-alone i h = rw (byte-alone i h, byte-alone (i + 1) (omega arith), byte-alone (i + 2) (omega arith), byte-alone (i + 3) (omega arith))
 
   -- a walk over clauses
-  module _ (prior : List ℕ) (rises : List Bool) (event : List ℕ) where
+  module _ (prior : List ℕ) (rises : List Bool) (event : Values) where
     clause-alone : (w : Walked) → n ≤ w .at → clauseAt f prior rises event w ≡ clauseAt g prior rises event w
-    unfolding clauseAt
+    unfolding clauseAt clauseOn met
     clause-alone w h =
         rw (
           byte-alone (w .at) h,
@@ -66,7 +67,7 @@ module _ (f g : List ℕ) (n : ℕ) (long : length f ≡ length g) (rest : drop 
             next (omega arith)
 
   -- what its clauses gather
-  gain-alone : (fresh rises : List Bool) (event : List ℕ) (m i : ℕ) (a : Gained) → n ≤ i
+  gain-alone : (fresh rises : List Bool) (event : Values) (m i : ℕ) (a : Gained) → n ≤ i
       → gainFrom m f fresh rises event i a ≡ gainFrom m g fresh rises event i a
   unfolding gainFrom gainAt
   gain-alone fresh rises event zero i a h = refl
@@ -80,7 +81,7 @@ module _ (f g : List ℕ) (n : ℕ) (long : length f ≡ length g) (rest : drop 
 
 -- the STEP at an offset, in two files of one length that agree from its target on
 module _ (f g : List ℕ) (at : ℕ) (long : length f ≡ length g) (rest : drop (suc at) f ≡ drop (suc at) g) (c : Configuration) (fresh : List Bool)
-    (event : List ℕ) where
+    (event : Values) where
   walked-alone : (rises : List Bool) → (walked f at c rises event ≡ walked g at c rises event) × (suc at ≤ (walked f at c rises event) .at)
   unfolding walked begun
   walked-alone rises = rw (← long) (walk-alone f g (suc at) long rest (c .values) rises event (suc (length f)) (begun at c) (omega arith))
@@ -118,7 +119,7 @@ module _ (f g : List ℕ) (at : ℕ) (long : length f ≡ length g) (rest : drop
 
 -- Step k of a state, by the table: it fires, and is expired, alike in two files of one length that agree from its target on.
 module _ (f g table : List ℕ) (c : Configuration) (k : ℕ) (long : length f ≡ length g)
-    (rest : drop (suc (offsetOf table (c .state) k)) f ≡ drop (suc (offsetOf table (c .state) k)) g) (fresh : List Bool) (event : List ℕ) where
+    (rest : drop (suc (offsetOf table (c .state) k)) f ≡ drop (suc (offsetOf table (c .state) k)) g) (fresh : List Bool) (event : Values) where
   pub fires-alone : firesAt f table c fresh event k ≡ firesAt g table c fresh event k
   unfolding firesAt isStep
   fires-alone = rw (fired-alone f g (offsetOf table (c .state) k) long rest c fresh event, long)

@@ -10,17 +10,18 @@ use lib.Seq.{getD-drop, drop-drop, drop-append-seam}
 use lib.Dec.{eqb}
 use Rattle.base.specs.Value.{bytesOf, valueAt}
 use Rattle.base.specs.Lists.{All}
+use Rattle.base.proofs.Tests.{and-end}
 use Rattle.base.proofs.Values.{value-of-bytes}
-use Rattle.event_log.specs.Log.{Kind, Values}
+use Rattle.event_log.specs.Log.{Kind, Values, present, field}
 use Rattle.formula.specs.Formula.{Operator, equal, unequal, less, greater, atmost, atleast, Clause, TEST, TESTV, BIND, GATHER}
 use Rattle.formula.specs.Encode.{CLAUSE, operatorByte, listByte, encodeClause}
 use Rattle.formula.specs.Correct.{Exists}
 use Rattle.machine_code.specs.declared.Walked.{Walked}
 use Rattle.machine.specs.Configuration.{Config}
-use Rattle.machine.specs.Firing.{holds, field, valueOf, hold, bindAll, passes}
+use Rattle.machine.specs.Firing.{holds, valueOf, hold, bindAll, passes}
 use Rattle.machine.specs.Expiry.{rises, missed, anyPastDue}
 use Rattle.machine.specs.inner.Walk.{walk}
-use Rattle.machine_code.specs.inner.Bytes.{holdsBy, missedBy, isClause, widthOf, tested, holding, bound, noted, clauseAt, walkFrom}
+use Rattle.machine_code.specs.inner.Bytes.{holdsBy, missedBy, isClause, widthOf, tested, holding, bound, noted, met, clauseAt, walkFrom}
 use Rattle.machine_code.proofs.ClausesOnBytes.{clause-test, clause-testv, clause-note, clause-bind}
 
 -- what stands behind an offset is read there
@@ -56,13 +57,17 @@ width-encode (TESTV g o u) l = refl
 width-encode (BIND g u) l = refl
 width-encode (GATHER g u) l = refl
 
-module _ (f prior : List ℕ) (rising : List Bool) (event : List ℕ) where
+module _ (f prior : List ℕ) (rising : List Bool) (event : Values) where
+  -- a field is marked as rising, and is there
+  abbrev risesThere : ℕ → Bool
+  risesThere g = getD rising g false && present event g
+
   -- what a clause does to a walk
   abbrev pub clauseOf : Walked → Clause → Walked
-  clauseOf w (TEST g o y) = tested w (w .at + 7) (operatorByte o) (getD event g 0) y (getD rising g false)
-  clauseOf w (TESTV g o v) = tested w (w .at + 4) (operatorByte o) (getD event g 0) (getD prior v 0) (getD rising g false)
-  clauseOf w (BIND g v) = bound w (w .at + 3) v (getD event g 0) (getD rising g false)
-  clauseOf w (GATHER g v) = noted w (w .at + 3)
+  clauseOf w (TEST g o y) = tested (met w (present event g)) (w .at + 7) (operatorByte o) (field event g) y (risesThere g)
+  clauseOf w (TESTV g o v) = tested (met w (present event g)) (w .at + 4) (operatorByte o) (field event g) (getD prior v 0) (risesThere g)
+  clauseOf w (BIND g v) = bound (met w (present event g)) (w .at + 3) v (field event g) (risesThere g)
+  clauseOf w (GATHER g v) = noted (met w (present event g)) (w .at + 3)
 
   abbrev pub walkOf : Walked → List Clause → Walked
   walkOf w [] = w
@@ -70,30 +75,31 @@ module _ (f prior : List ℕ) (rising : List Bool) (event : List ℕ) where
 
   clause-encode : (m : ℕ) (w : Walked) (k : Clause) (l : List ℕ) → drop (w .at) f ≡ encodeClause k ++ l → Exists m (CLAUSE k)
       → clauseAt f prior rising event w ≡ clauseOf w k
-  unfolding encodeClause
+  unfolding encodeClause clauseAt met
   clause-encode m w (TEST g o y) l h v =
-      sym
-      (clause-test f prior rising event w g (getD event g 0) (operatorByte o) 0x12 (getD rising g false)
-      (sym (byte-from f _ (w .at) 1 h)) refl refl (sym (byte-from f _ (w .at) 2 h)) (sym (first-byte f _ (w .at) h))
-      y _ refl (sym (value-from f _ (w .at) h ∙ value-of-bytes (0x12 ∷ g ∷ operatorByte o ∷ []) y l (v .1))) refl)
+      rw (byte-from f _ (w .at) 1 h)
+      (sym
+      (clause-test f prior (met w (present event g)) (field event g) (operatorByte o) 0x12 (risesThere g) (sym (byte-from f _ (w .at) 2 h))
+      (sym (first-byte f _ (w .at) h)) y _ refl
+      (sym (value-from f _ (w .at) h ∙ value-of-bytes (0x12 ∷ g ∷ operatorByte o ∷ []) y l (v .1))) refl))
   clause-encode m w (TESTV g o u) l h v =
-      sym
-      (clause-testv f prior rising event w g (getD event g 0) (operatorByte o) 0x13 (getD rising g false)
-      (sym (byte-from f _ (w .at) 1 h)) refl refl (sym (byte-from f _ (w .at) 2 h)) (sym (first-byte f _ (w .at) h))
-      u _ _ refl (sym (byte-from f _ (w .at) 3 h)) refl refl)
+      rw (byte-from f _ (w .at) 1 h)
+      (sym
+      (clause-testv f prior (met w (present event g)) (field event g) (operatorByte o) 0x13 (risesThere g) (sym (byte-from f _ (w .at) 2 h))
+      (sym (first-byte f _ (w .at) h)) u _ _ refl (sym (byte-from f _ (w .at) 3 h)) refl refl))
   clause-encode m w (BIND g u) l h v =
-      sym
-      (clause-bind f prior rising event w g (getD event g 0) u 0x14 (getD rising g false)
-      (sym (byte-from f _ (w .at) 1 h)) refl refl (sym (byte-from f _ (w .at) 2 h)) (sym (first-byte f _ (w .at) h))
-      _ (λ e. omega arith) (λ e. omega arith) (λ e. omega arith) refl)
+      rw (byte-from f _ (w .at) 1 h)
+      (sym
+      (clause-bind f prior (met w (present event g)) (field event g) u 0x14 (risesThere g) (sym (byte-from f _ (w .at) 2 h))
+      (sym (first-byte f _ (w .at) h)) _ (λ e. omega arith) (λ e. omega arith) (λ e. omega arith) refl))
   clause-encode m w (GATHER g u) l h v =
-      sym
-      (clause-note f prior rising event w g (getD event g 0) (listByte u) 0x17 (getD rising g false)
-      (sym (byte-from f _ (w .at) 1 h)) refl refl (sym (byte-from f _ (w .at) 2 h)) (sym (first-byte f _ (w .at) h))
-      _ refl refl)
+      rw (byte-from f _ (w .at) 1 h)
+      (sym
+      (clause-note f prior (met w (present event g)) (field event g) (listByte u) 0x17 (risesThere g) (sym (byte-from f _ (w .at) 2 h))
+      (sym (first-byte f _ (w .at) h)) _ refl refl))
 
   clause-at : (w : Walked) (k : Clause) → (clauseOf w k) .at ≡ w .at + length (encodeClause k)
-  unfolding tested bound noted encodeClause bytesOf
+  unfolding tested bound noted met encodeClause bytesOf
   clause-at w (TEST g o y) = refl
   clause-at w (TESTV g o u) = refl
   clause-at w (BIND g u) = refl
@@ -171,10 +177,6 @@ unfolding holding
 holding-due w v x r true e = rw e
 holding-due w v x r false e = rw e
 
-pub and-end : (a : Bool) → a ≡ (a && true)
-and-end true = refl
-and-end false = refl
-
 or-end : (a : Bool) → a ≡ (a || false)
 or-end true = refl
 or-end false = refl
@@ -191,61 +193,75 @@ module _ (f : List ℕ) (fields : List Kind) (rising : List Bool) (kept : (g : �
   unfolding tested
   tested-agrees w d next o x y r a = record { held = a .held; values = a .values }
 
-  tested-passing : (w : Walked) (next : ℕ) (o : Operator) (x y : ℕ) (r t : Bool)
-      → ((tested w next (operatorByte o) x y r) .passes && t) ≡ (w .passes && (holds o x y && t))
-  unfolding tested
-  tested-passing w next o x y r t = rw (holds-operator o x y) (and-assoc (w .passes) (holds o x y) t)
+  -- a test of a field, of which p says whether it is there
+  tested-passing : (w : Walked) (next : ℕ) (o : Operator) (x y : ℕ) (p r t : Bool)
+      → ((tested (met w p) next (operatorByte o) x y r) .passes && t) ≡ (w .passes && ((p && holds o x y) && t))
+  unfolding tested met
+  tested-passing w next o x y p r t =
+      rw (holds-operator o x y, and-assoc (w .passes) p (holds o x y)) (and-assoc (w .passes) (p && holds o x y) t)
 
-  tested-due : (w : Walked) (next : ℕ) (o : Operator) (x y g : ℕ) (t : Bool)
-      → ((tested w next (operatorByte o) x y (getD rising g false)) .due || t) ≡ (w .due || ((rises fields g && missed o x y) || t))
-  unfolding tested
-  tested-due w next o x y g t = rw (missed-operator o x y, kept g) (or-assoc (w .due) (rises fields g && missed o x y) t)
+  tested-due : (w : Walked) (next : ℕ) (o : Operator) (x y g : ℕ) (p t : Bool)
+      → ((tested (met w p) next (operatorByte o) x y (getD rising g false && p)) .due || t) ≡ (w .due || ((rises fields g && (p && missed o x y)) || t))
+  unfolding tested met
+  tested-due w next o x y g p t =
+      rw (missed-operator o x y, kept g, and-assoc (rises fields g) p (missed o x y)) (or-assoc (w .due) (rises fields g && (p && missed o x y)) t)
 
   bound-agrees : (w : Walked) (d : Config) (next v x : ℕ) (r : Bool) → Agrees w d → Agrees (bound w next v x r) (hold d v x)
   unfolding bound
   bound-agrees w d next v x r a = let h = holding-agrees w d v x r (getD (d .held) v false) refl a in record { held = h .held; values = h .values }
 
-  bound-passing : (w : Walked) (d : Config) (next v x : ℕ) (r t : Bool) → Agrees w d
-      → ((bound w next v x r) .passes && t) ≡ (w .passes && (eqb x (valueOf (hold d v x) v) && t))
-  unfolding bound
-  bound-passing w d next v x r t a =
-      let h = holding-agrees w d v x r (getD (d .held) v false) refl a in
-      rw (h .values) (and-assoc (w .passes) (eqb x (valueOf (hold d v x) v)) t)
+  met-agrees : (w : Walked) (d : Config) (p : Bool) → Agrees w d → Agrees (met w p) d
+  unfolding met
+  met-agrees w d p a = record { held = a .held; values = a .values }
 
-  bound-due : (w : Walked) (next v x : ℕ) (r t : Bool) → ((bound w next v x r) .due || t) ≡ (w .due || t)
-  unfolding bound
-  bound-due w next v x r t = rw (holding-due w v x r (getD (w .held) v false) refl)
+  bound-passing : (w : Walked) (d : Config) (next v x : ℕ) (p r t : Bool) → Agrees w d
+      → ((bound (met w p) next v x r) .passes && t) ≡ (w .passes && ((p && eqb x (valueOf (hold d v x) v)) && t))
+  unfolding bound met
+  bound-passing w d next v x p r t a =
+      let h = holding-agrees (met w p) d v x r (getD (d .held) v false) refl (met-agrees w d p a) in
+      rw (h .values, and-assoc (w .passes) p (eqb x (valueOf (hold d v x) v))) (and-assoc (w .passes) (p && eqb x (valueOf (hold d v x) v)) t)
+
+  bound-due : (w : Walked) (next v x : ℕ) (p r t : Bool) → ((bound (met w p) next v x r) .due || t) ≡ (w .due || t)
+  unfolding bound met
+  bound-due w next v x p r t = rw (holding-due (met w p) v x r (getD (w .held) v false) refl)
 
   noted-agrees : (w : Walked) (d : Config) (next : ℕ) → Agrees w d → Agrees (noted w next) d
   unfolding noted
   noted-agrees w d next a = record { held = a .held; values = a .values }
 
   pub along : (ks : List Clause) (d : Config) (w : Walked) → Agrees w d → Along fields c d event ks w (walkOf f (c .values) rising event w ks)
-  unfolding noted
+  unfolding noted met
   along [] d w a = record { agrees = a; passing = and-end (w .passes); overdue = or-end (w .due) }
   along (TEST g o y ∷ ks) d w a =
-      let i = along ks d (tested w (w .at + 7) (operatorByte o) (getD event g 0) y (getD rising g false)) (tested-agrees w d _ _ _ _ _ a) in
+      let p = present event g in
+      let r = getD rising g false && p in
+      let i = along ks d (tested (met w p) (w .at + 7) (operatorByte o) (field event g) y r) (tested-agrees (met w p) d _ _ _ _ _ (met-agrees w d p a)) in
       record {
         agrees = i .agrees;
-        passing = i .passing ∙ tested-passing w (w .at + 7) o (getD event g 0) y (getD rising g false) (walk c d event ks);
-        overdue = i .overdue ∙ tested-due w (w .at + 7) o (getD event g 0) y g (anyPastDue fields c event ks);
+        passing = i .passing ∙ tested-passing w (w .at + 7) o (field event g) y p r (walk c d event ks);
+        overdue = i .overdue ∙ tested-due w (w .at + 7) o (field event g) y g p (anyPastDue fields c event ks);
       }
   along (TESTV g o u ∷ ks) d w a =
+      let p = present event g in
+      let r = getD rising g false && p in
       let i =
-      along ks d (tested w (w .at + 4) (operatorByte o) (getD event g 0) (getD (c .values) u 0) (getD rising g false))
-      (tested-agrees w d _ _ _ _ _ a) in
+      along ks d (tested (met w p) (w .at + 4) (operatorByte o) (field event g) (getD (c .values) u 0) r)
+      (tested-agrees (met w p) d _ _ _ _ _ (met-agrees w d p a)) in
       record {
         agrees = i .agrees;
-        passing = i .passing ∙ tested-passing w (w .at + 4) o (getD event g 0) (getD (c .values) u 0) (getD rising g false) (walk c d event ks);
-        overdue = i .overdue ∙ tested-due w (w .at + 4) o (getD event g 0) (getD (c .values) u 0) g (anyPastDue fields c event ks);
+        passing = i .passing ∙ tested-passing w (w .at + 4) o (field event g) (getD (c .values) u 0) p r (walk c d event ks);
+        overdue = i .overdue ∙ tested-due w (w .at + 4) o (field event g) (getD (c .values) u 0) g p (anyPastDue fields c event ks);
       }
   along (BIND g u ∷ ks) d w a =
-      let i = along ks (hold d u (field event g)) (bound w (w .at + 3) u (getD event g 0) (getD rising g false)) (bound-agrees w d _ _ _ _ a) in
+      let p = present event g in
+      let r = getD rising g false && p in
+      let i = along ks (hold d u (field event g)) (bound (met w p) (w .at + 3) u (field event g) r) (bound-agrees (met w p) d _ _ _ _ (met-agrees w d p a)) in
       record {
         agrees = i .agrees;
-        passing = i .passing ∙ bound-passing w d (w .at + 3) u (getD event g 0) (getD rising g false) (walk c (hold d u (field event g)) event ks) a;
-        overdue = i .overdue ∙ bound-due w (w .at + 3) u (getD event g 0) (getD rising g false) (anyPastDue fields c event ks);
+        passing = i .passing ∙ bound-passing w d (w .at + 3) u (field event g) p r (walk c (hold d u (field event g)) event ks) a;
+        overdue = i .overdue ∙ bound-due w (w .at + 3) u (field event g) p r (anyPastDue fields c event ks);
       }
   along (GATHER g u ∷ ks) d w a =
-      let i = along ks d (noted w (w .at + 3)) (noted-agrees w d (w .at + 3) a) in
-      record { agrees = i .agrees; passing = i .passing; overdue = i .overdue }
+      let p = present event g in
+      let i = along ks d (noted (met w p) (w .at + 3)) (noted-agrees (met w p) d (w .at + 3) (met-agrees w d p a)) in
+      record { agrees = i .agrees; passing = i .passing ∙ and-assoc (w .passes) p (walk c d event ks); overdue = i .overdue }

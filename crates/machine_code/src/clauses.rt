@@ -1,13 +1,15 @@
 // A step's clauses, walked front to back.
 use crate::Configuration;
 use crate::Walked;
+use crate::readings::reading;
 use guard_code::guard::value_of;
 use guard_code::trends::mark_of;
 ghost use mathlib.Core.Path.{_≡_};
 ghost use mathlib.Core.Bool.{false, _||_};
+ghost use Rattle.event_log.specs.Event.{together};
 ghost use Prim.Native.Nat.{_<_, _+_, _^_};
 ghost use lib.ListN.{getD, length};
-ghost use Rattle.machine_code.specs.inner.Bytes.{holdsBy, missedBy, isClause, tested, holding, bound, noted, clauseAt, begun, walked};
+ghost use Rattle.machine_code.specs.inner.Bytes.{holdsBy, missedBy, isClause, tested, holding, bound, noted, met, clauseOn, clauseAt, begun, walked};
 
 // Either of two tests.
 fn either(a: bool, b: bool) -> bool
@@ -91,15 +93,21 @@ fn note(w: Walked, next: usize) -> Walked
     then
 }
 
-// The clause where the walk stands.
-pub fn clause(f: &[u8], w: Walked, prior: [u32; 8], rises: [bool; 8], event: [u32; 8]) -> Walked
+// A walk at a clause whose field is present or absent: an absent one keeps the step from firing.
+fn meet(w: Walked, there: bool) -> Walked
+    ensures { λ r. ⌜ r ≡ met w there ⌝ }
+{
+    let mut then = w;
+    then.passes = base::both(w.passes, there);
+    then
+}
+
+// The clause where the walk stands, of a field with value x, which is there and rises or not.
+fn clause_on(f: &[u8], w: Walked, prior: [u32; 8], x: u32, rising: bool) -> Walked
     requires { ⌜ w .at < length (now f) ⌝ }
-    ensures { λ r. ⌜ r ≡ clauseAt (now (f .entry)) prior rises event w ⌝ }
+    ensures { λ r. ⌜ r ≡ clauseOn (now (f .entry)) prior w x rising ⌝ }
 {
     let at = w.at;
-    let field = base::byte_at(f, at + 1);
-    let x = value_of(&event, field);
-    let rising = mark_of(&rises, field);
     let operand = base::byte_at(f, at + 2);
     let command = base::byte_at(f, at);
     match command {
@@ -115,6 +123,25 @@ pub fn clause(f: &[u8], w: Walked, prior: [u32; 8], rises: [bool; 8], event: [u3
         0x17 => note(w, at + 3),
         _ => bind(w, at + 3, operand, x, rising),
     }
+}
+
+// The clause where the walk stands; a field that never arrived does not rise.
+pub fn clause(
+    f: &[u8],
+    w: Walked,
+    prior: [u32; 8],
+    rises: [bool; 8],
+    event: [u32; 8],
+    there: [bool; 8],
+) -> Walked
+    requires { ⌜ w .at < length (now f) ⌝ }
+    ensures { λ r. ⌜ r ≡ clauseAt (now (f .entry)) prior rises (together there event) w ⌝ }
+{
+    let field = base::byte_at(f, w.at + 1);
+    let present = mark_of(&there, field);
+    let x = reading(&event, &there, field);
+    let rising = base::both(mark_of(&rises, field), present);
+    clause_on(f, meet(w, present), prior, x, rising)
 }
 
 // Whether a TEST, TESTV, BIND or GATHER stands there.
@@ -148,14 +175,21 @@ pub fn begin(at: usize, c: Configuration) -> Walked
 }
 
 // The clauses of the STEP at an offset.
-pub fn walk(f: &[u8], at: usize, c: Configuration, rises: [bool; 8], event: [u32; 8]) -> Walked
+pub fn walk(
+    f: &[u8],
+    at: usize,
+    c: Configuration,
+    rises: [bool; 8],
+    event: [u32; 8],
+    there: [bool; 8],
+) -> Walked
     requires { ⌜ at < length (now f) ⌝ }
-    ensures { λ r. ⌜ r ≡ walked (now (f .entry)) at c rises event ⌝ }
+    ensures { λ r. ⌜ r ≡ walked (now (f .entry)) at c rises (together there event) ⌝ }
 {
     let prior = c.values;
     let mut w = begin(at, c);
     while is_clause(f, w.at) {
-        w = clause(f, w, prior, rises, event);
+        w = clause(f, w, prior, rises, event, there);
     }
     w
 }

@@ -9,6 +9,7 @@ use guard_code::Marks;
 use guard_code::guard::guard_holds;
 use guard_code::trends::guard_falls;
 ghost use mathlib.Core.Path.{_≡_};
+ghost use Rattle.event_log.specs.Arrays.{inLatest};
 ghost use Rattle.machine_code.specs.inner.Bytes.{fallsBehind, lapsed};
 
 // Whether the guard at a place is falling, given the variables held before the step, those that grow, and what it gathers.
@@ -39,18 +40,19 @@ pub fn expired(
     rises: [bool; 8],
     latest: Latest,
 ) -> bool
-    ensures { λ r. ⌜ r ≡ lapsed (now (f .entry)) at c fresh rises (latest .values) ⌝ }
+    ensures { λ r. ⌜ r ≡ lapsed (now (f .entry)) at c fresh rises (inLatest latest) ⌝ }
 {
     if f.len() <= at {
         return true;
     }
     let fields = latest.values;
-    let w = walk(f, at, c, rises, fields);
+    let there = latest.present;
+    let w = walk(f, at, c, rises, fields, there);
     if w.due {
         return true;
     }
     let before = c.tallies;
-    let g = gains(f, at, w.gathers, before, fresh, rises, fields);
+    let g = gains(f, at, w.gathers, before, fresh, rises, fields, there);
     let held = c.held;
     let grows = w.grows;
     if falls_behind(f, w.at, held, grows, g) {

@@ -7,6 +7,7 @@ use event_log::Event;
 use guard_code::guard::guard_holds;
 use guard_code::guard::sum;
 ghost use mathlib.Core.Path.{_≡_};
+ghost use Rattle.event_log.specs.Arrays.{inEvent};
 ghost use Rattle.machine_code.specs.inner.Bytes.{raised, fired};
 
 // One added to a state's counter; a counter stops at 4294967295.
@@ -24,7 +25,7 @@ pub fn raise(counters: [u32; 16], s: u32) -> [u32; 16]
 
 // Whether the STEP at an offset fires on an event, and the configuration that it leaves.
 pub fn fire(f: &[u8], at: usize, c: Configuration, fresh: [bool; 32], event: Event) -> Fired
-    ensures { λ r. ⌜ r ≡ fired (now (f .entry)) at c fresh (event .values) ⌝ }
+    ensures { λ r. ⌜ r ≡ fired (now (f .entry)) at c fresh (inEvent event) ⌝ }
 {
     if f.len() <= at {
         return Fired {
@@ -34,7 +35,8 @@ pub fn fire(f: &[u8], at: usize, c: Configuration, fresh: [bool; 32], event: Eve
     }
     let target = base::byte_at(f, at + 1);
     let fields = event.values;
-    let w = walk(f, at, c, [false; 8], fields);
+    let there = event.present;
+    let w = walk(f, at, c, [false; 8], fields, there);
     if !w.passes {
         return Fired {
             fires: false,
@@ -44,7 +46,7 @@ pub fn fire(f: &[u8], at: usize, c: Configuration, fresh: [bool; 32], event: Eve
     let held = w.held;
     let values = w.values;
     let before = c.tallies;
-    let g = gains(f, at, w.gathers, before, fresh, [false; 8], fields);
+    let g = gains(f, at, w.gathers, before, fresh, [false; 8], fields, there);
     let tallies = g.tallies;
     let old = c.counters;
     let counters = raise(old, c.state);

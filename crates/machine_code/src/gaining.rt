@@ -2,11 +2,12 @@
 use crate::Gained;
 use crate::clauses::is_clause;
 use crate::marks::width;
+use crate::readings::reading;
 use guard_code::guard::difference;
 use guard_code::guard::sum;
-use guard_code::guard::value_of;
 use guard_code::trends::mark_of;
 ghost use mathlib.Core.Path.{_≡_};
+ghost use Rattle.event_log.specs.Event.{together};
 ghost use mathlib.Core.Bool.{cond};
 ghost use Prim.Native.Nat.{_<_};
 ghost use lib.ListN.{length};
@@ -62,17 +63,19 @@ fn gain(
     fresh: [bool; 32],
     rises: [bool; 8],
     event: [u32; 8],
+    there: [bool; 8],
 ) -> Gained
     requires { ⌜ place < length (now f) ⌝ }
-    ensures { λ r. ⌜ r ≡ gainAt (now (f .entry)) fresh rises event place g ⌝ }
+    ensures { λ r. ⌜ r ≡ gainAt (now (f .entry)) fresh rises (together there event) place g ⌝ }
 {
     if base::byte_at(f, place) != 0x17 {
         return g;
     }
     let field = base::byte_at(f, place + 1);
     let operand = base::byte_at(f, place + 2);
-    let x = value_of(&event, field);
-    gather(g, field, operand, x, mark_of(&rises, field), fresh)
+    let x = reading(&event, &there, field);
+    let rising = base::both(mark_of(&rises, field), mark_of(&there, field));
+    gather(g, field, operand, x, rising, fresh)
 }
 
 // What the clauses of the STEP at an offset add.
@@ -83,15 +86,16 @@ fn gain_all(
     fresh: [bool; 32],
     rises: [bool; 8],
     event: [u32; 8],
+    there: [bool; 8],
 ) -> Gained
     requires { ⌜ at < length (now f) ⌝ }
-    ensures { λ r. ⌜ r ≡ gained (now (f .entry)) at tallies fresh rises event ⌝ }
+    ensures { λ r. ⌜ r ≡ gained (now (f .entry)) at tallies fresh rises (together there event) ⌝ }
 {
     let mut g = keep(tallies);
     let mut place = at + 2;
     while is_clause(f, place) {
         let taken = width(base::byte_at(f, place));
-        g = gain(f, place, g, fresh, rises, event);
+        g = gain(f, place, g, fresh, rises, event, there);
         place = place + taken;
     }
     g
@@ -106,12 +110,13 @@ pub fn gains(
     fresh: [bool; 32],
     rises: [bool; 8],
     event: [u32; 8],
+    there: [bool; 8],
 ) -> Gained
     requires { ⌜ at < length (now f) ⌝ }
-    ensures { λ r. ⌜ r ≡ cond gathers (gained (now (f .entry)) at tallies fresh rises event) (kept tallies) ⌝ }
+    ensures { λ r. ⌜ r ≡ cond gathers (gained (now (f .entry)) at tallies fresh rises (together there event)) (kept tallies) ⌝ }
 {
     if gathers {
-        return gain_all(f, at, tallies, fresh, rises, event);
+        return gain_all(f, at, tallies, fresh, rises, event, there);
     }
     keep(tallies)
 }

@@ -4,6 +4,7 @@ pub mod expiring;
 pub mod firing;
 mod gaining;
 pub mod marks;
+mod readings;
 pub mod steps;
 
 // "A configuration is a state, the held variables with values, and a counter per state"; a value is 0 where its variable is not held.

@@ -1,9 +1,10 @@
-// What an event alone says of a step: a TEST reads no variable, so one pass over a step's clauses serves every configuration.
+// What an event alone says of a step: an absent field, or a TEST, which reads no variable. One pass over a step's clauses serves every configuration.
 use crate::clauses::holds;
 use crate::clauses::missed;
-use guard_code::guard::value_of;
+use crate::readings::reading;
 use guard_code::trends::mark_of;
 ghost use mathlib.Core.Path.{_≡_};
+ghost use Rattle.event_log.specs.Event.{together};
 ghost use Prim.Native.Nat.{_≤_, _+_};
 ghost use lib.ListN.{length};
 ghost use Rattle.machine_code.specs.inner.Bytes.{widthOf};
@@ -22,15 +23,19 @@ pub fn width(command: u32) -> usize
     }
 }
 
-// Whether the command there is a TEST that is false on the event.
-fn fails(f: &[u8], command: u32, place: usize, event: &[u32]) -> bool
+// Whether the clause there is of an absent field, or a TEST that is false on the event.
+fn fails(f: &[u8], command: u32, place: usize, event: &[u32], there: &[bool]) -> bool
     requires { ⌜ place + 7 ≤ length (now f) ⌝ }
-    ensures { λ r. ⌜ r ≡ failsAt (now (f .entry)) command place (now (event .entry)) ⌝ }
+    ensures { λ r. ⌜ r ≡ failsAt (now (f .entry)) command place (together (now (there .entry)) (now (event .entry))) ⌝ }
 {
+    let field = base::wide(f[place + 1]);
+    if !mark_of(there, field) {
+        return true;
+    }
     if command != 0x12 {
         return false;
     }
-    let x = value_of(event, base::wide(f[place + 1]));
+    let x = reading(event, there, field);
     !holds(
         base::wide(f[place + 2]),
         x,
@@ -39,16 +44,23 @@ fn fails(f: &[u8], command: u32, place: usize, event: &[u32]) -> bool
 }
 
 // Whether the command there is a TEST that is past due by these values.
-fn misses(f: &[u8], command: u32, place: usize, rises: &[bool], latest: &[u32]) -> bool
+fn misses(
+    f: &[u8],
+    command: u32,
+    place: usize,
+    rises: &[bool],
+    latest: &[u32],
+    there: &[bool],
+) -> bool
     requires { ⌜ place + 7 ≤ length (now f) ⌝ }
-    ensures { λ r. ⌜ r ≡ missesAt (now (f .entry)) command place (now (rises .entry)) (now (latest .entry)) ⌝ }
+    ensures { λ r. ⌜ r ≡ missesAt (now (f .entry)) command place (now (rises .entry)) (together (now (there .entry)) (now (latest .entry))) ⌝ }
 {
     if command != 0x12 {
         return false;
     }
     let field = base::wide(f[place + 1]);
-    if mark_of(rises, field) {
-        let x = value_of(latest, field);
+    if base::both(mark_of(rises, field), mark_of(there, field)) {
+        let x = reading(latest, there, field);
         return missed(
             base::wide(f[place + 2]),
             x,
@@ -58,10 +70,10 @@ fn misses(f: &[u8], command: u32, place: usize, rises: &[bool], latest: &[u32]) 
     false
 }
 
-// The place of the first TEST of the STEP at an offset that is false on the event, 0 where none is: with such a TEST the step does
-// not fire, whatever the configuration.
-pub fn barred(f: &[u8], at: usize, event: &[u32]) -> usize
-    ensures { λ r. ⌜ BarredIs (now (f .entry)) at (now (event .entry)) r ⌝ }
+// The place of the first clause of the STEP at an offset that is of an absent field, or a TEST that is false on the event, 0 where
+// there is none: with such a clause the step does not fire, whatever the configuration.
+pub fn barred(f: &[u8], at: usize, event: &[u32], there: &[bool]) -> usize
+    ensures { λ r. ⌜ BarredIs (now (f .entry)) at (together (now (there .entry)) (now (event .entry))) r ⌝ }
 {
     if f.len() <= at {
         return 0;
@@ -73,7 +85,7 @@ pub fn barred(f: &[u8], at: usize, event: &[u32]) -> usize
         if taken == 0 {
             return 0;
         }
-        if fails(f, command, place, event) {
+        if fails(f, command, place, event, there) {
             return place;
         }
         place = place + taken;
@@ -83,8 +95,8 @@ pub fn barred(f: &[u8], at: usize, event: &[u32]) -> usize
 
 // Whether a TEST from a place on is past due by these values: the step whose clause stands there is expired, whatever the
 // configuration.
-pub fn due(f: &[u8], from: usize, rises: &[bool], latest: &[u32]) -> bool
-    ensures { λ r. ⌜ DueIs (now (f .entry)) from (now (rises .entry)) (now (latest .entry)) r ⌝ }
+pub fn due(f: &[u8], from: usize, rises: &[bool], latest: &[u32], there: &[bool]) -> bool
+    ensures { λ r. ⌜ DueIs (now (f .entry)) from (now (rises .entry)) (together (now (there .entry)) (now (latest .entry))) r ⌝ }
 {
     if f.len() <= from {
         return false;
@@ -96,7 +108,7 @@ pub fn due(f: &[u8], from: usize, rises: &[bool], latest: &[u32]) -> bool
         if taken == 0 {
             return false;
         }
-        if misses(f, command, place, rises, latest) {
+        if misses(f, command, place, rises, latest, there) {
             return true;
         }
         place = place + taken;

@@ -10,6 +10,7 @@ use event_log::Event;
 use event_log::Latest;
 use guard_code::guard::guard_holds;
 ghost use mathlib.Core.Path.{_≡_};
+ghost use Rattle.event_log.specs.Arrays.{inEvent, inLatest};
 ghost use Rattle.machine_code.specs.inner.Bytes.{offsetOf, isStep, firesAt, lowestOf, expiresAt, aliveBelow};
 
 // Where step k of state s stands, 0 where there is none.
@@ -38,9 +39,10 @@ fn is_step(f: &[u8], at: usize) -> bool
 
 // The number of the lowest numbered step of the configuration's state that fires on the event, 8 where none does.
 pub fn lowest(f: &[u8], table: &[usize], c: Configuration, fresh: [bool; 32], event: Event) -> usize
-    ensures { λ r. ⌜ r ≡ lowestOf (firesAt (now (f .entry)) (now (table .entry)) c fresh (event .values)) ⌝ }
+    ensures { λ r. ⌜ r ≡ lowestOf (firesAt (now (f .entry)) (now (table .entry)) c fresh (inEvent event)) ⌝ }
 {
     let fields = event.values;
+    let there = event.present;
     let prior = c.values;
     let before = c.tallies;
     let old = c.counters;
@@ -58,13 +60,13 @@ pub fn lowest(f: &[u8], table: &[usize], c: Configuration, fresh: [bool; 32], ev
         }
         let mut w = begin(at, c);
         while is_clause(f, w.at) {
-            w = clause(f, w, prior, [false; 8], fields);
+            w = clause(f, w, prior, [false; 8], fields, there);
             if !w.passes {
                 continue 'steps;
             }
         }
         let values = w.values;
-        let g = gains(f, at, w.gathers, before, fresh, [false; 8], fields);
+        let g = gains(f, at, w.gathers, before, fresh, [false; 8], fields, there);
         let tallies = g.tallies;
         if guard_holds(f, w.at, values, counters, tallies) {
             break 'steps k;
@@ -81,7 +83,7 @@ pub fn hopeful(
     rises: [bool; 8],
     latest: Latest,
 ) -> bool
-    ensures { λ r. ⌜ r ≡ aliveBelow (expiresAt (now (f .entry)) (now (table .entry)) c fresh rises (latest .values)) 8 ⌝ }
+    ensures { λ r. ⌜ r ≡ aliveBelow (expiresAt (now (f .entry)) (now (table .entry)) c fresh rises (inLatest latest)) 8 ⌝ }
 {
     let mut next: usize = 0;
     while next < 8 {

@@ -222,6 +222,60 @@ const COUNTED: [u8; 18] = *b"\x10\x01\
     \x11\x00\
     \x10\x02\x00";
 
+// A trip at 500, one whose time is absent, an open at 520.
+const UNTIMED: [u8; 34] = *b"\x01\x01\x01\x00\
+    \x02\x00\x00\x01\xF4\x00\x00\x00\x01\
+    \x03\x02\x00\x00\x00\x00\x00\x00\x00\x01\
+    \x03\x03\x00\x00\x02\x08\x00\x00\x00\x02\
+    \x00";
+
+// The same with nothing present in event 1.
+const NOTHING: [u8; 34] = *b"\x01\x01\x01\x00\
+    \x02\x00\x00\x01\xF4\x00\x00\x00\x01\
+    \x03\x00\x00\x00\x00\x00\x00\x00\x00\x00\
+    \x03\x03\x00\x00\x02\x08\x00\x00\x00\x02\
+    \x00";
+
+// Three events without a time.
+const UNSEEN: [u8; 21] = *b"\x01\x01\
+    \x03\x00\x00\x00\x00\x00\
+    \x03\x00\x00\x00\x00\x00\
+    \x03\x00\x00\x00\x00\x00\
+    \x00";
+
+// The time 600, then two events without.
+const LATE: [u8; 21] = *b"\x01\x01\
+    \x03\x01\x00\x00\x02\x58\
+    \x03\x00\x00\x00\x00\x00\
+    \x03\x00\x00\x00\x00\x00\
+    \x00";
+
+// The time 599, then two events without.
+const EARLY: [u8; 21] = *b"\x01\x01\
+    \x03\x01\x00\x00\x02\x57\
+    \x03\x00\x00\x00\x00\x00\
+    \x03\x00\x00\x00\x00\x00\
+    \x00";
+
+// The time 600, none, then 599.
+const FALL: [u8; 20] = *b"\x01\x01\
+    \x03\x01\x00\x00\x02\x58\
+    \x03\x00\x00\x00\x00\x00\
+    \x02\x00\x00\x02\x57\
+    \x00";
+
+// Binds the time; the guard is 0, and names the variable in the branch not taken.
+const CHOICE: [u8; 34] = *b"\x10\x00\x11\x01\
+    \x10\x00\x11\x02\x14\x00\x01\
+    \x15\x2B\x20\x00\x00\x00\x01\x20\x00\x00\x00\x00\x25\x21\x01\x20\x00\x00\x02\x58\
+    \x10\x02\x00";
+
+// Gathers the time; the guard is that the list's length is less than 1.
+const LENGTH: [u8; 23] = *b"\x10\x00\x11\x01\
+    \x10\x00\x11\x02\x17\x00\x08\
+    \x15\x25\x2D\x08\x20\x00\x00\x00\x01\
+    \x10\x02\x00";
+
 // L and F, L and G at every start and behind the last, and exchanged events; M7 is start 2, M8 is 191 words.
 fn show_bench() {
     show_starts(b"L F", &L, &F);
@@ -261,10 +315,29 @@ fn show_runs() {
     show_with(b"many counted", &MANY, &COUNTED, 1, 12288);
 }
 
+// Absent fields: a step that reads one does not fire; the last present time expires a step, that before the start too, and where
+// none arrived only a guard that does not name it can.
+fn show_absent() {
+    show_with(b"untimed F", &UNTIMED, &F, 0, 192);
+    show_with(b"untimed F", &UNTIMED, &F, 1, 192);
+    show_with(b"nothing F", &NOTHING, &F, 0, 192);
+    show_with(b"nothing F", &NOTHING, &F, 1, 192);
+    show_both(b"unseen before", &UNSEEN, &BEFORE, 192, 384);
+    show_with(b"late before", &LATE, &BEFORE, 0, 192);
+    show_with(b"late before", &LATE, &BEFORE, 1, 192);
+    show_with(b"early before", &EARLY, &BEFORE, 1, 192);
+    show_with(b"early before", &EARLY, &BEFORE, 1, 384);
+    show_with(b"unseen choice", &UNSEEN, &CHOICE, 0, 192);
+    show_with(b"late choice", &LATE, &CHOICE, 0, 192);
+    show_with(b"unseen length", &UNSEEN, &LENGTH, 0, 192);
+    show_with(b"fall F", &FALL, &F, 0, 192);
+}
+
 fn main() {
     show_bench();
     show_empty();
     show_crowded();
     show_widths();
     show_runs();
+    show_absent();
 }

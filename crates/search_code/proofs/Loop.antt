@@ -12,10 +12,15 @@ use Rattle.base.specs.Lists.{pad}
 use Rattle.refusal.specs.declared.Refusal.the-variants.{Crowded as CrowdedAt}
 use Rattle.event_log.specs.declared.Event.{Event}
 use Rattle.event_log.specs.declared.Loaded.{Loaded}
-use Rattle.event_log.specs.Log.{Log}
+use Rattle.event_log.specs.declared.Latest.{Latest}
+use Rattle.event_log.specs.Log.{Log, eventAt}
+use Rattle.event_log.specs.Latest.{latest}
+use Rattle.event_log.specs.Arrays.{eventOf, latestOf}
+use Rattle.event_log.specs.inner.Carrying.{laterOf}
 use Rattle.event_log.specs.inner.Loading.{loadedAt, Leads}
 use Rattle.event_log.specs.Correct.{Recorded}
-use Rattle.event_log.proofs.LastSeen.{latest-is}
+use Rattle.event_log.proofs.LastSeen.{length-event, length-latest}
+use Rattle.event_log.proofs.Arrays.{later-shown}
 use Rattle.formula.specs.Formula.{Formula}
 use Rattle.runs.specs.Machine.{Machine}
 use Rattle.runs.specs.inner.Search.{endings, least, leastFrom, next, origin, search}
@@ -38,16 +43,36 @@ use Rattle.threads.specs.inner.Event.{Kept, waitingIn}
 use Rattle.search.specs.declared.Verdict.the-variants.{Absent, Accept, Reject}
 use Rattle.search_code.specs.declared.Outcome.the-variants.{Found, Crowded, Waiting}
 use Rattle.search.specs.Search.{without, refusal, answerOf}
-use Rattle.search_code.specs.inner.Turn.{momentOf, namedAnswer, TurnTo}
+use Rattle.search_code.specs.inner.Turn.{seenTo, momentOf, namedAnswer, TurnTo}
 use Rattle.search_code.proofs.Lawful.{threads-give}
 use Rattle.search_code.proofs.Arrays.{accepts}
 
--- what is loaded by the table's entry n is event n, whose values are those seen last
-pub event-there : (g : Log) (l places : List ℕ) (fields n : ℕ) (r : Loaded) → Recorded g → Leads l places g → fields ≡ length (g .fields)
-    → n < length (g .events) → r ≡ loadedAt l fields (getD places n 0) → Loads g (momentOf n (r .event))
-event-there g l places fields n r ok e f h q =
-    let v = ap (λ (x : Loaded). x .event .values) (q ∙ ap (λ m. loadedAt l m (getD places n 0)) f) ∙ ap (λ (x : Event). x .values) (e n h) in
-    record { there = h; values = v; latest-are = v ∙ ap (pad 8 0) (sym (latest-is g ok n h)) }
+module _ (g : Log) (l places : List ℕ) (fields : ℕ) (ok : Recorded g) (leads : Leads l places g) (are : fields ≡ length (g .fields)) where
+  -- what is loaded by the table's entry n is event n
+  loaded-is : (n : ℕ) → n < length (g .events) → (loadedAt l fields (getD places n 0)) .event ≡ eventOf ((eventAt g n) .values)
+  loaded-is n h = ap (λ m. (loadedAt l m (getD places n 0)) .event) are ∙ leads n h
+
+  -- one event more over the last present values
+  carried : (n : ℕ) (x : Latest) (e : Event) → n < length (g .events) → x ≡ latestOf (latest g n) → e ≡ eventOf ((eventAt g n) .values)
+      → laterOf x e ≡ latestOf (latest g (suc n))
+  unfolding latest
+  carried n x e h p q =
+      ap₂ laterOf p q
+      ∙ later-shown ((eventAt g n) .values) (latest g n) (omega (arith, ok .most-fields, length-event g ok n h))
+      (omega (arith, ok .most-fields, length-latest g ok n (omega arith)))
+
+  -- the values carried before event n are the last present ones
+  pub seen-is : (n : ℕ) → n ≤ length (g .events) → seenTo l places fields n ≡ latestOf (latest g n)
+  unfolding seenTo latest
+  seen-is zero h = refl
+  seen-is (suc n) h = carried n (seenTo l places fields n) _ (omega arith) (seen-is n (omega arith)) (loaded-is n (omega arith))
+
+  -- the event, with the values by which steps are judged after it
+  pub event-there : (n : ℕ) (r : Loaded) (x : Latest) → n < length (g .events) → r ≡ loadedAt l fields (getD places n 0)
+      → x ≡ seenTo l places fields n → Loads g (momentOf n x (r .event))
+  event-there n r x h q p =
+      let e : r .event ≡ eventOf ((eventAt g n) .values) = ap (λ (y : Loaded). y .event) q ∙ loaded-is n h in
+      record { there = h; event-is = e; latest-is = carried n x (r .event) h (p ∙ seen-is n (omega arith)) e }
 
 -- the words of the start configuration, stored in slot 0, are read back
 pub origin-stored : (before after : List ℕ) → 192 ≤ length before → after ≡ put before (place 0 0) (wordsOf originThread)

@@ -17,13 +17,15 @@ ghost use mathlib.Core.Path.{_≡_};
 ghost use mathlib.Core.Bool.{cond};
 ghost use mathlib.Core.List.{List, [], _∷_};
 ghost use Prim.Native.Nat.{ℕ, _+_, _*_, _≤_, _<_, max};
-ghost use lib.ListN.{length};
+ghost use lib.ListN.{length, getD};
+ghost use Rattle.event_log.specs.inner.Loading.{loadedAt};
+ghost use Rattle.event_log.specs.inner.Carrying.{laterOf};
 ghost use lib.Dec.{eqb};
 ghost use Rattle.slots.specs.inner.Threads.{originThread};
 ghost use Rattle.slots.specs.inner.Words.{list};
 ghost use Rattle.search.specs.Search.{slotsOf, without, refusal};
 ghost use Rattle.search.specs.Call.{Searched};
-ghost use Rattle.search_code.specs.inner.Turn.{entriesOf, verdictAt, namedAnswer, momentOf, TurnIs, TurnOf, Fits, scopeOf, SearchedFrom};
+ghost use Rattle.search_code.specs.inner.Turn.{entriesOf, verdictAt, namedAnswer, seenTo, momentOf, TurnIs, TurnOf, Fits, scopeOf, SearchedFrom};
 ghost use Rattle.threads.specs.inner.Setting.{Wide};
 ghost use Rattle.threads.specs.inner.Event.{Seated};
 ghost use Rattle.search_code.specs.inner.Checks.{CheckedIs};
@@ -150,18 +152,42 @@ fn larger(a: usize, b: usize) -> usize
     if a < b { b } else { a }
 }
 
-// Event n and the values by which steps are judged expired after it: its own, as it has a value for each field.
-fn moment_of(n: usize, event: Event) -> Moment
+// Event n and the values by which steps are judged expired after it: each field's last present one, from those before it.
+fn moment_of(n: usize, seen: Latest, event: Event) -> Moment
     requires { ⌜ n < 1024 ⌝ }
-    ensures { λ r. ⌜ r ≡ momentOf n event ⌝ }
+    ensures { λ r. ⌜ r ≡ momentOf n seen event ⌝ }
 {
-    let values = event.values;
-    let latest = Latest { values };
+    let latest = event_log::later(seen, event);
     Moment {
         number: n as u32,
         event,
         latest,
     }
+}
+
+// The last present values behind event n, from those before it.
+pub fn seen_after(l: &[u8], places: &[usize; 1024], scope: Scope, n: usize, seen: Latest) -> Latest
+    requires { ⌜ (n < 1024) × (length (now places) ≡ 1024) ⌝ }
+    ensures { λ r. ⌜ r ≡ laterOf seen ((loadedAt (now (l .entry)) (scope .rules .fields) (getD (now (places .entry)) n 0)) .event) ⌝ }
+{
+    let rules = scope.rules;
+    let loaded = event_log::event_at(l, rules.fields, places[n]);
+    let event = loaded.event;
+    event_log::later(seen, event)
+}
+
+// The last present values before a start.
+fn seen_before(l: &[u8], places: &[usize; 1024], scope: Scope, start: usize) -> Latest
+    requires { ⌜ (start ≤ 1024) × (length (now places) ≡ 1024) ⌝ }
+    ensures { λ r. ⌜ r ≡ seenTo (now (l .entry)) (now (places .entry)) (scope .rules .fields) start ⌝ }
+{
+    let mut seen = event_log::none_seen();
+    let mut n: usize = 0;
+    while n < start {
+        seen = seen_after(l, places, scope, n, seen);
+        n += 1;
+    }
+    seen
 }
 
 // One event: the least run that ends on it; else the waiting list after it, in the other half, or crowded.
@@ -229,7 +255,7 @@ fn onward(n: usize, more: usize, events: usize) -> usize
     if more == 0 { events } else { n + 1 }
 }
 
-// The search from one event of an accepted log with an accepted formula, event by event.
+// The search from one event of an accepted log with an accepted formula, event by event; `before` has the last present values before it.
 pub fn search_from(
     l: &[u8],
     places: &[usize; 1024],
@@ -237,10 +263,11 @@ pub fn search_from(
     table: &[usize; 128],
     scope: Scope,
     start: usize,
+    before: Latest,
     work: &mut [u32],
 ) -> SearchAnswer
     requires { ⌜ (scope .slots * 192 ≤ length (now work)) × (1 ≤ scope .slots) × (scope .events ≤ 1024) × (length (now places) ≡ 1024) ⌝ }
-    ensures { λ r. ⌜ SearchedFrom (now (l .entry)) (now (places .entry)) (now (f .entry)) (now (table .entry)) scope start r ⌝ }
+    ensures { λ r. ⌜ SearchedFrom (now (l .entry)) (now (places .entry)) (now (f .entry)) (now (table .entry)) scope start before r ⌝ }
     ensures { λ r. ⌜ (r .width ≤ scope .slots) × (length (now (work .exit)) ≡ length (now (work .entry))) ⌝ }
 {
     origin_in(work);
@@ -250,12 +277,15 @@ pub fn search_from(
     let mut half: usize = 0;
     let mut count: usize = 1;
     let mut width: usize = 0;
+    let mut seen = before;
     let mut n = start;
     while n < scope.events {
         let loaded = event_log::event_at(l, rules.fields, places[n]);
         let event = loaded.event;
+        let moment = moment_of(n, seen, event);
+        seen = moment.latest;
         let seats = Seats { half, count, slots };
-        let turn = at_event(work, seats, l, places, f, &wide, rules, moment_of(n, event));
+        let turn = at_event(work, seats, l, places, f, &wide, rules, moment);
         let outcome = turn.outcome;
         match outcome {
             Outcome::Found => return named(turn, rules, width),
@@ -314,7 +344,8 @@ fn checked(l: &[u8], f: &[u8], files: FilesReading, start: usize, work: &mut [u3
     let places = log.places;
     let table = formula.table;
     let scope = scope_of(log, formula, slots_of(words));
-    search_from(l, &places, f, &table, scope, start, work)
+    let seen = seen_before(l, &places, scope, start);
+    search_from(l, &places, f, &table, scope, start, seen, work)
 }
 
 // The search from an event, over the bytes of the two files, with threads in the lent words.

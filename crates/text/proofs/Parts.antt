@@ -4,7 +4,7 @@ use mathlib.Core.Path.{_≡_, refl, ap, sym, _∙_}
 use mathlib.Core.Bool.{Bool, true, false, cond}
 use mathlib.Core.List.{List, [], _∷_, _++_, append-nil, append-assoc}
 use native.Mathlib.Numerals.{add-one}
-use native.Mathlib.Nat.{add-zero, suc-mul, le-of-eq, pow-suc, div-div-eq-div-mul}
+use native.Mathlib.Nat.{add-zero, suc-mul, le-of-eq, pow-suc}
 use native.Mathlib.Omega.{arith}
 use lib.ListN.{getD}
 use lib.Dec.{eqb, ltb}
@@ -83,13 +83,10 @@ one-more {most = most} text n e a b =
     let m : each text n 0 ++ text n ≡ each text (n + 1) 0 = rw (add-one n) (rw h at (each-more text n 0)) in
     same-text (ap (λ t. each text n 0 ++ t) e ∙ m) (le-of-eq (rw (add-one n) (sym (suc-mul n most)))) (behind a b)
 
--- the mask's bit for a variable is the lowest of those that are left; the bits that are left then
+-- the mask's bit for a variable is the lowest of those that are left
 pub held-is : (r : List ℕ) (v rest : ℕ) → rest ≡ getD r 3 0 / 2 ^ v → cond (eqb (rest % 2) 1) (variable v (getD r (4 + v) 0)) [] ≡ held r v
 unfolding held
 held-is r v rest e = rw e
-
-pub next-bit : (m v rest : ℕ) → rest ≡ m / 2 ^ v → rest / 2 ≡ m / 2 ^ (v + 1)
-next-bit m v rest e = ap (λ i. i / 2) e ∙ rw (add-one v, pow-suc 2 v) (div-div-eq-div-mul m (2 ^ v) 2)
 
 -- what stands behind the word; the whole line; a refusal's line
 pub no-details : (r : List ℕ) → getD r 0 0 ≡ 0 → [] ≡ details r

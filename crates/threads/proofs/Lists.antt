@@ -9,7 +9,7 @@ use lib.Seq.{getD-drop, getD-append-add, ext-getD, length-take-le}
 use lib.Dec.{eqb}
 use borrow.Author.Tests.{eqb-true, eqb-false}
 use Rattle.base.specs.Lists.{All, sameList}
-use Rattle.event_log.specs.Log.{Values, Log}
+use Rattle.event_log.specs.Log.{Values, Log, field}
 use Rattle.event_log.proofs.LastSeen.{length-event}
 use Rattle.formula.specs.Formula.{Formula}
 use Rattle.formula.specs.Lookup.{stepTable}
@@ -17,7 +17,6 @@ use Rattle.formula.proofs.Places.{table-length}
 use Rattle.runs.specs.Run.{Entry}
 use Rattle.machine.specs.Configuration.{listOf}
 use Rattle.machine.specs.Guard.{among}
-use Rattle.machine.specs.Firing.{field}
 use Rattle.machine.specs.inner.Along.{first, gathered, tallies, IsFresh}
 use Rattle.machine.proofs.Along.{gathered-4, gathered-short}
 use Rattle.guard_code.proofs.Tallies.{length-at}
@@ -173,7 +172,7 @@ module _ (g : Log) (fm : Formula) {l places : List ℕ} (f table : List ℕ) (ru
       nothing (y ∷ xs) x n = absurd (omega arith)
 
   -- what the code of one step is given of the lists
-  pub carries : (event : List ℕ) (fresh : List Bool) → IsFresh (gathered g fm (trailOf t)) event fresh
+  pub carries : (event : Values) (fresh : List Bool) → IsFresh (gathered g fm (trailOf t)) event fresh
       → Carries (length (g .fields)) (gathered g fm (trailOf t)) (t .config) event fresh
   carries event fresh new = record {
     few = s .setting .log .most-fields;

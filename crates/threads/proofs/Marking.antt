@@ -1,4 +1,5 @@
 -- An event's table stays one where the event alone keeps a step from firing, or makes it expired, and its entry is made 0.
+use Rattle.event_log.specs.Arrays.{inEvent, inLatest}
 use Prim.Native.Nat.{ℕ, _+_, _<_, _≤_}
 use mathlib.Core.Path.{_≡_, refl, sym, subst, _∙_}
 use mathlib.Core.Bool.{Bool, true, false, cond}
@@ -29,61 +30,61 @@ module _ (f steps : List ℕ) (rises : List Bool) (m : Moment) (table : List ℕ
   wide-steps w entries e =
       record {
         sized = e .sized;
-        fires = λ i h. subst (λ x. Firing f (m .event .values) x (getD entries i 0)) (w .first i h) (e .fires i h);
-        lapses = λ i h. subst (λ x. Lasting f rises (m .latest .values) x (getD entries (128 + i) 0)) (w .first i h) (e .lapses i h);
+        fires = λ i h. subst (λ x. Firing f (inEvent (m .event)) x (getD entries i 0)) (w .first i h) (e .fires i h);
+        lapses = λ i h. subst (λ x. Lasting f rises (inLatest (m .latest)) x (getD entries (128 + i) 0)) (w .first i h) (e .lapses i h);
         plain = λ i h. e .plain i h ∙ w .first i h;
       }
 
   module _ (i : ℕ) (h : i < 128) (e : EventTable f steps rises m table) where
-    pub barred-more : (b : Bool) → (b ≡ true → (fresh : List Bool) (c : Configuration) → (fired f (getD steps i 0) c fresh (m .event .values)) .fires ≡ false)
+    pub barred-more : (b : Bool) → (b ≡ true → (fresh : List Bool) (c : Configuration) → (fired f (getD steps i 0) c fresh (inEvent (m .event))) .fires ≡ false)
         → EventTable f steps rises m (set table i (cond b 0 (getD table i 0)))
     barred-more b q =
         record {
           sized = length-set table i (cond b 0 (getD table i 0)) ∙ e .sized;
           fires = λ j l. by j l (eqb j i) refl;
-          lapses = λ j l. subst (Lasting f rises (m .latest .values) (getD steps j 0))
+          lapses = λ j l. subst (Lasting f rises (inLatest (m .latest)) (getD steps j 0))
               (sym (getD-set-other table i (128 + j) (cond b 0 (getD table i 0)) 0 (λ z. omega (arith, z)))) (e .lapses j l);
           plain = λ j l. getD-set-other table i (256 + j) (cond b 0 (getD table i 0)) 0 (λ z. omega (arith, z)) ∙ e .plain j l;
         }
       where
-        here : (z : Bool) → (z ≡ true → (fresh : List Bool) (c : Configuration) → (fired f (getD steps i 0) c fresh (m .event .values)) .fires ≡ false)
-            → Firing f (m .event .values) (getD steps i 0) (cond z 0 (getD table i 0))
+        here : (z : Bool) → (z ≡ true → (fresh : List Bool) (c : Configuration) → (fired f (getD steps i 0) c fresh (inEvent (m .event))) .fires ≡ false)
+            → Firing f (inEvent (m .event)) (getD steps i 0) (cond z 0 (getD table i 0))
         here true r = barred refl (r refl)
         here false r = e .fires i h
 
-        by : (j : ℕ) → j < 128 → (z : Bool) → eqb j i ≡ z → Firing f (m .event .values) (getD steps j 0) (getD (set table i (cond b 0 (getD table i 0))) j 0)
+        by : (j : ℕ) → j < 128 → (z : Bool) → eqb j i ≡ z → Firing f (inEvent (m .event)) (getD steps j 0) (getD (set table i (cond b 0 (getD table i 0))) j 0)
         by j l true z =
-            subst (λ k. Firing f (m .event .values) (getD steps k 0) (getD (set table i (cond b 0 (getD table i 0))) k 0)) (sym (eqb-true j i z))
-            (subst (Firing f (m .event .values) (getD steps i 0)) (sym (getD-set-same table i (cond b 0 (getD table i 0)) 0 (omega (arith, e .sized))))
+            subst (λ k. Firing f (inEvent (m .event)) (getD steps k 0) (getD (set table i (cond b 0 (getD table i 0))) k 0)) (sym (eqb-true j i z))
+            (subst (Firing f (inEvent (m .event)) (getD steps i 0)) (sym (getD-set-same table i (cond b 0 (getD table i 0)) 0 (omega (arith, e .sized))))
             (here b q))
-        by j l false z = subst (Firing f (m .event .values) (getD steps j 0)) (sym (getD-set-other table i j (cond b 0 (getD table i 0)) 0 (eqb-false j i z)))
+        by j l false z = subst (Firing f (inEvent (m .event)) (getD steps j 0)) (sym (getD-set-other table i j (cond b 0 (getD table i 0)) 0 (eqb-false j i z)))
             (e .fires j l)
 
-    pub due-more : (b : Bool) → (b ≡ true → (fresh : List Bool) (c : Configuration) → lapsed f (getD steps i 0) c fresh rises (m .latest .values) ≡ true)
+    pub due-more : (b : Bool) → (b ≡ true → (fresh : List Bool) (c : Configuration) → lapsed f (getD steps i 0) c fresh rises (inLatest (m .latest)) ≡ true)
         → EventTable f steps rises m (set table (128 + i) (cond b 0 (getD table (128 + i) 0)))
     due-more b q =
         record {
           sized = length-set table (128 + i) (cond b 0 (getD table (128 + i) 0)) ∙ e .sized;
-          fires = λ j l. subst (Firing f (m .event .values) (getD steps j 0))
+          fires = λ j l. subst (Firing f (inEvent (m .event)) (getD steps j 0))
               (sym (getD-set-other table (128 + i) j (cond b 0 (getD table (128 + i) 0)) 0 (λ z. omega (arith, z)))) (e .fires j l);
           lapses = λ j l. by j l (eqb j i) refl;
           plain = λ j l. getD-set-other table (128 + i) (256 + j) (cond b 0 (getD table (128 + i) 0)) 0 (λ z. omega (arith, z)) ∙ e .plain j l;
         }
       where
-        here : (z : Bool) → (z ≡ true → (fresh : List Bool) (c : Configuration) → lapsed f (getD steps i 0) c fresh rises (m .latest .values) ≡ true)
-            → Lasting f rises (m .latest .values) (getD steps i 0) (cond z 0 (getD table (128 + i) 0))
+        here : (z : Bool) → (z ≡ true → (fresh : List Bool) (c : Configuration) → lapsed f (getD steps i 0) c fresh rises (inLatest (m .latest)) ≡ true)
+            → Lasting f rises (inLatest (m .latest)) (getD steps i 0) (cond z 0 (getD table (128 + i) 0))
         here true r = due refl (r refl)
         here false r = e .lapses i h
 
         by : (j : ℕ) → j < 128 → (z : Bool) → eqb j i ≡ z
-            → Lasting f rises (m .latest .values) (getD steps j 0) (getD (set table (128 + i) (cond b 0 (getD table (128 + i) 0))) (128 + j) 0)
+            → Lasting f rises (inLatest (m .latest)) (getD steps j 0) (getD (set table (128 + i) (cond b 0 (getD table (128 + i) 0))) (128 + j) 0)
         by j l true z =
-            subst (λ k. Lasting f rises (m .latest .values) (getD steps k 0) (getD (set table (128 + i) (cond b 0 (getD table (128 + i) 0))) (128 + k) 0))
+            subst (λ k. Lasting f rises (inLatest (m .latest)) (getD steps k 0) (getD (set table (128 + i) (cond b 0 (getD table (128 + i) 0))) (128 + k) 0))
             (sym (eqb-true j i z))
-            (subst (Lasting f rises (m .latest .values) (getD steps i 0))
+            (subst (Lasting f rises (inLatest (m .latest)) (getD steps i 0))
             (sym (getD-set-same table (128 + i) (cond b 0 (getD table (128 + i) 0)) 0 (omega (arith, e .sized)))) (here b q))
         by j l false z =
-            subst (Lasting f rises (m .latest .values) (getD steps j 0))
+            subst (Lasting f rises (inLatest (m .latest)) (getD steps j 0))
             (sym (getD-set-other table (128 + i) (128 + j) (cond b 0 (getD table (128 + i) 0)) 0 (λ y. eqb-false j i z (omega (arith, y))))) (e .lapses j l)
 
 -- what the first n entries of each part have

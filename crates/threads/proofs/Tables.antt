@@ -9,6 +9,7 @@ use native.Mathlib.Omega.{arith}
 use lib.ListN.{length, drop}
 use lib.Seq.{getD-drop}
 use Rattle.event_log.specs.Log.{Log}
+use Rattle.event_log.specs.Arrays.{inEvent, inLatest}
 use Rattle.formula.specs.Formula.{Formula}
 use Rattle.formula.specs.Lookup.{stepTable}
 use Rattle.runs.specs.inner.Search.{anyAlive}
@@ -43,13 +44,13 @@ alive-same p q (suc m) l h = rw (h m (omega arith), alive-same p q m (omega arit
 
 module _ (g : Log) (fm : Formula) {l places : List ℕ} (f table : List ℕ) (rules : Rules) (m : Moment) (s : Scene g fm l places f table rules m) (t : Thread)
     (w : Fit g fm t) where
-  entry : (k : ℕ) → k < 8 → Firing f (m .event .values) (offsetOf (stepTable fm) (t .config .state) k) (offsetOf table (t .config .state) k)
+  entry : (k : ℕ) → k < 8 → Firing f (inEvent (m .event)) (offsetOf (stepTable fm) (t .config .state) k) (offsetOf table (t .config .state) k)
   entry k h =
       rw (← offset-in (stepTable fm) (t .config .state) k h, ← offset-in table (t .config .state) k h)
       (s .offsets .fires (t .config .state * 8 + k) (omega (arith, w .valid .declared, s .setting .formula .formed .states)))
 
   entry-behind : (k : ℕ) → k < 8
-      → Lasting f (rules .rises) (m .latest .values) (offsetOf (stepTable fm) (t .config .state) k) (offsetOf (drop 128 table) (t .config .state) k)
+      → Lasting f (rules .rises) (inLatest (m .latest)) (offsetOf (stepTable fm) (t .config .state) k) (offsetOf (drop 128 table) (t .config .state) k)
   entry-behind k h =
       rw (
         ← offset-in (stepTable fm) (t .config .state) k h,
@@ -63,60 +64,60 @@ module _ (g : Log) (fm : Formula) {l places : List ℕ} (f table : List ℕ) (ru
   ready = ready-of g fm t w (s .setting .formula .formed .states)
 
   fires-same : (fresh : List Bool) (k : ℕ) → k < 8
-      → firesAt f table (t .config) fresh (m .event .values) k ≡ firesAt f (stepTable fm) (t .config) fresh (m .event .values) k
+      → firesAt f table (t .config) fresh (inEvent (m .event)) k ≡ firesAt f (stepTable fm) (t .config) fresh (inEvent (m .event)) k
   unfolding firesAt
   fires-same fresh k h = go (offsetOf (stepTable fm) (t .config .state) k) (offsetOf table (t .config .state) k) (entry k h)
     where
-      go : (at now : ℕ) → Firing f (m .event .values) at now
-          → (isStep f now && (fired f now (t .config) fresh (m .event .values)) .fires)
-          ≡ (isStep f at && (fired f at (t .config) fresh (m .event .values)) .fires)
+      go : (at now : ℕ) → Firing f (inEvent (m .event)) at now
+          → (isStep f now && (fired f now (t .config) fresh (inEvent (m .event))) .fires)
+          ≡ (isStep f at && (fired f at (t .config) fresh (inEvent (m .event))) .fires)
       go at now (stands q) = rw q
       go at now (barred q b) = rw (← step-none f now q, b fresh (t .config), and-false (isStep f at))
 
   expires-same : (fresh : List Bool) (k : ℕ) → k < 8
-      → expiresAt f (drop 128 table) (t .config) fresh (rules .rises) (m .latest .values) k
-      ≡ expiresAt f (stepTable fm) (t .config) fresh (rules .rises) (m .latest .values) k
+      → expiresAt f (drop 128 table) (t .config) fresh (rules .rises) (inLatest (m .latest)) k
+      ≡ expiresAt f (stepTable fm) (t .config) fresh (rules .rises) (inLatest (m .latest)) k
   unfolding expiresAt
   expires-same fresh k h = go (offsetOf (stepTable fm) (t .config .state) k) (offsetOf (drop 128 table) (t .config .state) k) (entry-behind k h)
     where
-      go : (at now : ℕ) → Lasting f (rules .rises) (m .latest .values) at now
-          → (not (isStep f now) || lapsed f now (t .config) fresh (rules .rises) (m .latest .values))
-          ≡ (not (isStep f at) || lapsed f at (t .config) fresh (rules .rises) (m .latest .values))
+      go : (at now : ℕ) → Lasting f (rules .rises) (inLatest (m .latest)) at now
+          → (not (isStep f now) || lapsed f now (t .config) fresh (rules .rises) (inLatest (m .latest)))
+          ≡ (not (isStep f at) || lapsed f at (t .config) fresh (rules .rises) (inLatest (m .latest)))
       go at now (lasts q) = rw q
       go at now (due q b) = rw (← step-none f now q, b fresh (t .config), or-true (not (isStep f at)))
 
   -- what fires by the event's table fires in the machine
-  fires-here : (fresh : List Bool) → IsFresh (gathered g fm (trailOf t)) (m .event .values) fresh → (k : ℕ) → k < 8
-      → firesAt f table (t .config) fresh (m .event .values) k ≡ isFired (fireAt g fm (conf g fm t) (m .number) k)
+  fires-here : (fresh : List Bool) → IsFresh (gathered g fm (trailOf t)) (inEvent (m .event)) fresh → (k : ℕ) → k < 8
+      → firesAt f table (t .config) fresh (inEvent (m .event)) k ≡ isFired (fireAt g fm (conf g fm t) (m .number) k)
   fires-here fresh new k h =
       fires-same fresh k h
       ∙ fires-machine g fm (length (g .fields)) f (stepTable fm) (charted g fm f (stepTable fm) rules (s .setting))
-      (gathered g fm (trailOf t)) (t .config) ready (m .number) fresh (m .event .values) (carries g fm f table rules m s t w (m .event .values) fresh new)
+      (gathered g fm (trailOf t)) (t .config) ready (m .number) fresh (inEvent (m .event)) (carries g fm f table rules m s t w (inEvent (m .event)) fresh new)
       (event-fields g fm f (stepTable fm) rules (s .setting) m (s .loads)) k h
 
   -- the lowest step that fires by it is the machine's
-  pub lowest-here : (fresh : List Bool) → IsFresh (gathered g fm (trailOf t)) (m .event .values) fresh
-      → Lowest (λ k. isFired (fireAt g fm (conf g fm t) (m .number) k)) (lowestOf (firesAt f table (t .config) fresh (m .event .values)))
+  pub lowest-here : (fresh : List Bool) → IsFresh (gathered g fm (trailOf t)) (inEvent (m .event)) fresh
+      → Lowest (λ k. isFired (fireAt g fm (conf g fm t) (m .number) k)) (lowestOf (firesAt f table (t .config) fresh (inEvent (m .event))))
   unfolding lowestOf
   lowest-here fresh new =
       let low = lowest-machine g fm (length (g .fields)) f (stepTable fm) (charted g fm f (stepTable fm) rules (s .setting))
-      (gathered g fm (trailOf t)) (t .config) ready (m .number) fresh (m .event .values) (carries g fm f table rules m s t w (m .event .values) fresh new)
+      (gathered g fm (trailOf t)) (t .config) ready (m .number) fresh (inEvent (m .event)) (carries g fm f table rules m s t w (inEvent (m .event)) fresh new)
       (event-fields g fm f (stepTable fm) rules (s .setting) m (s .loads)) in
       subst (Lowest (λ k. isFired (fireAt g fm (conf g fm t) (m .number) k)))
       (sym
-      (lowest-same (firesAt f table (t .config) fresh (m .event .values)) (firesAt f (stepTable fm) (t .config) fresh (m .event .values))
+      (lowest-same (firesAt f table (t .config) fresh (inEvent (m .event))) (firesAt f (stepTable fm) (t .config) fresh (inEvent (m .event)))
       0 8 refl (fires-same fresh)))
       low
 
   -- some step is not expired by it exactly where the machine has one
-  pub hopeful-here : (fresh : List Bool) → IsFresh (gathered g fm (trailOf t)) (m .latest .values) fresh
-      → aliveBelow (expiresAt f (drop 128 table) (t .config) fresh (rules .rises) (m .latest .values)) 8
+  pub hopeful-here : (fresh : List Bool) → IsFresh (gathered g fm (trailOf t)) (inLatest (m .latest)) fresh
+      → aliveBelow (expiresAt f (drop 128 table) (t .config) fresh (rules .rises) (inLatest (m .latest))) 8
       ≡ anyAlive (machine g fm) (conf g fm t) (m .number) 8
   hopeful-here fresh new =
-      alive-same (expiresAt f (drop 128 table) (t .config) fresh (rules .rises) (m .latest .values))
-      (expiresAt f (stepTable fm) (t .config) fresh (rules .rises) (m .latest .values)) 8 (omega arith) (expires-same fresh)
+      alive-same (expiresAt f (drop 128 table) (t .config) fresh (rules .rises) (inLatest (m .latest)))
+      (expiresAt f (stepTable fm) (t .config) fresh (rules .rises) (inLatest (m .latest))) 8 (omega arith) (expires-same fresh)
       ∙ hopeful-machine g fm (length (g .fields)) f (stepTable fm) (charted g fm f (stepTable fm) rules (s .setting))
-      (gathered g fm (trailOf t)) (t .config) ready (m .number) fresh (m .latest .values) (carries g fm f table rules m s t w (m .latest .values) fresh new)
+      (gathered g fm (trailOf t)) (t .config) ready (m .number) fresh (inLatest (m .latest)) (carries g fm f table rules m s t w (inLatest (m .latest)) fresh new)
       (latest-fields g fm f (stepTable fm) rules (s .setting) m (s .loads)) (rules .rises)
       (marks g fm f (stepTable fm) rules (s .setting))
 
@@ -126,13 +127,13 @@ module _ (g : Log) (fm : Formula) {l places : List ℕ} (f table : List ℕ) (ru
     unfolding firesAt
     fires-none z =
         by (fireAt g fm (conf g fm t) (m .number) k)
-        (sym (fires-here marks-then (some-fresh (gathered g fm (trailOf t)) (m .event .values)) k h) ∙ quiet)
+        (sym (fires-here marks-then (some-fresh (gathered g fm (trailOf t)) (inEvent (m .event))) k h) ∙ quiet)
       where
         marks-then : List Bool
-        marks-then = someFresh (gathered g fm (trailOf t)) (m .event .values)
+        marks-then = someFresh (gathered g fm (trailOf t)) (inEvent (m .event))
 
         quiet : (isStep f (offsetOf table (t .config .state) k)
-            && (fired f (offsetOf table (t .config .state) k) (t .config) marks-then (m .event .values)) .fires) ≡ false
+            && (fired f (offsetOf table (t .config .state) k) (t .config) marks-then (inEvent (m .event))) .fires) ≡ false
         quiet = rw (← step-none f (offsetOf table (t .config .state) k) z)
 
         by : (o : Option Config) → isFired o ≡ false → o ≡ none
@@ -144,25 +145,25 @@ module _ (g : Log) (fm : Formula) {l places : List ℕ} (f table : List ℕ) (ru
         → offsetOf table (t .config .state) k ≡ offsetOf (stepTable fm) (t .config .state) k
     fires-stands d q = go (entry k h)
       where
-        go : Firing f (m .event .values) (offsetOf (stepTable fm) (t .config .state) k) (offsetOf table (t .config .state) k)
+        go : Firing f (inEvent (m .event)) (offsetOf (stepTable fm) (t .config .state) k) (offsetOf table (t .config .state) k)
             → offsetOf table (t .config .state) k ≡ offsetOf (stepTable fm) (t .config .state) k
         go (stands x) = x
         go (barred z b) = let y : none ≡ some d = sym (fires-none z) ∙ q in let x : _≡_ {A = ℕ} 0 1 = cc in absurd (omega arith)
 
     -- one that it has fires as the code says, and leaves what the code leaves
-    pub fires-some : (fresh : List Bool) → IsFresh (gathered g fm (trailOf t)) (m .event .values) fresh → (offsetOf table (t .config .state) k ≡ 0 → ⊥)
+    pub fires-some : (fresh : List Bool) → IsFresh (gathered g fm (trailOf t)) (inEvent (m .event)) fresh → (offsetOf table (t .config .state) k ≡ 0 → ⊥)
         → (r : Move)
         → ((at : ℕ) → at ≡ offsetOf table (t .config .state) k
         → r ≡ record {
-          fires = (fired f at (t .config) fresh (m .event .values)) .fires;
-          thread = record { config = (fired f at (t .config) fresh (m .event .values)) .config; steps = t .steps; trail = t .trail };
+          fires = (fired f at (t .config) fresh (inEvent (m .event))) .fires;
+          thread = record { config = (fired f at (t .config) fresh (inEvent (m .event))) .config; steps = t .steps; trail = t .trail };
         })
         → FiredBy (fireAt g fm (conf g fm t) (m .number) k) t r
     fires-some fresh new z r e = go (entry k h)
       where
-        go : Firing f (m .event .values) (offsetOf (stepTable fm) (t .config .state) k) (offsetOf table (t .config .state) k)
+        go : Firing f (inEvent (m .event)) (offsetOf (stepTable fm) (t .config .state) k) (offsetOf table (t .config .state) k)
             → FiredBy (fireAt g fm (conf g fm t) (m .number) k) t r
         go (stands x) =
-            Base.fires-some g fm f (stepTable fm) rules (s .setting) m (s .loads) t k h fresh (carries g fm f table rules m s t w (m .event .values) fresh new)
+            Base.fires-some g fm f (stepTable fm) rules (s .setting) m (s .loads) t k h fresh (carries g fm f table rules m s t w (inEvent (m .event)) fresh new)
             ready (λ q. z (x ∙ q)) r (e (offsetOf (stepTable fm) (t .config .state) k) (sym x))
         go (barred x b) = absurd (z x)

@@ -1,12 +1,13 @@
 // The table of an event, derived from the reader's table of steps and from nothing else, in three parts: where each step stands, in
-// the first 0 where the event alone keeps the step from firing, in the second 0 where the event alone makes it expired. A TEST reads no
-// variable, so that one look serves every thread.
+// the first 0 where the event alone keeps the step from firing, in the second 0 where the last present values alone make it expired. A
+// TEST reads no variable, so that one look serves every thread.
 use crate::Moment;
 use crate::Seats;
 ghost use mathlib.Core.Path.{_≡_};
 ghost use mathlib.Core.Bool.{true, cond};
 ghost use Prim.Native.Nat.{_<_};
 ghost use lib.ListN.{length};
+ghost use Rattle.event_log.specs.Event.{together};
 ghost use Rattle.threads.specs.inner.Event.{Seated};
 ghost use Rattle.threads.specs.inner.Setting.{Wide, MarkedBy, MarkedIs};
 
@@ -32,7 +33,8 @@ fn unless(cleared: bool, at: usize) -> usize
     if cleared { 0 } else { at }
 }
 
-// What the event alone says of the step at index i. A TEST past due is false on the event, so it is looked for from the first such on.
+// What the event alone says of the step at index i. A TEST past due is false on the event or of an absent field, so it is looked for
+// from the first such clause on.
 fn mark_entry(
     table: &mut [usize],
     i: usize,
@@ -40,16 +42,18 @@ fn mark_entry(
     steps: &[usize],
     rises: &[bool],
     event: &[u32],
+    arrived: &[bool],
     latest: &[u32],
+    known: &[bool],
 )
     requires { ⌜ (length (now table) ≡ 384) × (i < 128) ⌝ }
-    ensures { λ _. ⌜ MarkedBy (now (f .entry)) (now (steps .entry)) (now (rises .entry)) (now (event .entry)) (now (latest .entry)) (now (table .entry)) (now (table .exit)) ⌝ }
+    ensures { λ _. ⌜ MarkedBy (now (f .entry)) (now (steps .entry)) (now (rises .entry)) (together (now (arrived .entry)) (now (event .entry))) (together (now (known .entry)) (now (latest .entry))) (now (table .entry)) (now (table .exit)) ⌝ }
 {
-    let place = machine_code::marks::barred(f, lists::entry(steps, i), event);
+    let place = machine_code::marks::barred(f, lists::entry(steps, i), event, arrived);
     if 0 < place {
         table[i] = 0;
         table[128 + i] = unless(
-            machine_code::marks::due(f, place, rises, latest),
+            machine_code::marks::due(f, place, rises, latest, known),
             table[128 + i],
         );
     }
@@ -69,11 +73,23 @@ fn mark_state(
 {
     let event = moment.event;
     let values = event.values;
+    let arrived = event.present;
     let latest = moment.latest;
     let last = latest.values;
+    let known = latest.present;
     let mut k: usize = 0;
     while k < 8 {
-        mark_entry(table, s * 8 + k, f, steps, &rises, &values, &last);
+        mark_entry(
+            table,
+            s * 8 + k,
+            f,
+            steps,
+            &rises,
+            &values,
+            &arrived,
+            &last,
+            &known,
+        );
         k += 1;
     }
 }

@@ -3,7 +3,8 @@ use Rattle.formula.specs.Formula.{Formula}
 use Rattle.event_log.specs.Log.{Log}
 use Rattle.runs.specs.inner.Search as Runs
 use Rattle.machine.specs.Machine.{machine}
-use Rattle.search_code.specs.inner.Turn.{Given}
+use Rattle.search_code.specs.inner.Turn.{seenTo, Given}
+use Rattle.search_code.proofs.Turns.{seen-start, seen-next}
 use Rattle.analysis_code.proofs.Fitting.{given-fits}
 use Rattle.analysis_code.proofs.Turns.{SoFar, so-far-none, so-far-all, so-far-crowded, so-far-next, turn-as}
 use Rattle.analysis_code.specs.inner.Starts.{Ties}
@@ -18,48 +19,63 @@ use Rattle.analysis_code.proofs.all_starts.Statement.{statement}
 use Rattle.analysis_code.proofs.all_starts.Tie as tie
 
 abbrev Inv-loop : tie.InvT-loop
-Inv-loop l places f table scope tied work₀ rows₀ start₀ work rows start =
+Inv-loop l places f table scope tied work₀ rows₀ seen₀ start₀ work rows seen start =
     (start ≤ scope .events) × (length work ≡ length work₀) × (length rows ≡ length rows₀)
     × ((g : Log) (fm : Formula) → Given g fm l places f table scope → Ties fm tied → SoFar g fm (scope .slots) rows₀ rows start)
+    × (seen ≡ seenTo l places (scope .rules .fields) start)
 
 abbrev μ-loop : tie.MeasureT-loop
-μ-loop l places f table scope tied work₀ rows₀ start₀ work rows start = scope .events - start
+μ-loop l places f table scope tied work₀ rows₀ seen₀ start₀ work rows seen start = scope .events - start
+
+none-seen-requires : tie.Need-none-seen-requires Inv-loop μ-loop
+none-seen-requires c κs = search needs
 
 loop-holds : tie.Need-loop-holds Inv-loop μ-loop
 loop-holds c =
-    let c4 = c .before .before .before .before in
-    let a = c4 .args in
-    (omega arith, refl, refl, λ g fm given ties. so-far-none g fm (a .scope .slots) (now (a .rows)))
+    let c5 = c .before .before .before .before .before in
+    let a = c5 .args in (
+      omega arith,
+      refl,
+      refl,
+      λ g fm given ties. so-far-none g fm (a .scope .slots) (now (a .rows)),
+      seen-start (now (a .l)) (now (a .places)) (a .scope .rules .fields) _ (c .none-seen .ensures),
+    )
 
 search-from-requires : tie.Need-search-from-requires Inv-loop μ-loop
 search-from-requires c κs =
     let c3 = c .before .before .before in
-    let c8 = c3 .before .before .before .before .before in
-    let p = c8 .pre in
+    let c9 = c3 .before .before .before .before .before .before in
+    let p = c9 .pre in
     (omega (arith, p .0, c3 .loop .inv .1), p .1, p .2, p .4)
 
 one-start-requires : tie.Need-one-start-requires Inv-loop μ-loop
 one-start-requires c κs =
     let c5 = c .before .before .before .before .before in
     let c7 = c5 .before .before in
-    let c12 = c7 .before .before .before .before .before in
-    omega (arith, c12 .pre .3, c7 .loop .inv .2, c5 .if1 .taken)
+    let c13 = c7 .before .before .before .before .before .before in
+    omega (arith, c13 .pre .3, c7 .loop .inv .2, c5 .if1 .taken)
+
+seen-after-requires : tie.Need-seen-after-requires Inv-loop μ-loop
+seen-after-requires c κs =
+    let c9 = c .before .before .before .before .before .before .before .before .before in
+    let p = c9 .before .before .before .before .before .before .before .before .pre in
+    (omega (arith, c9 .if1 .taken, p .2), p .4)
 
 add-start : tie.Need-add-start Inv-loop μ-loop
 add-start c = search needs
 
 loop-less : tie.Need-loop-less Inv-loop μ-loop
 loop-less c =
-    let c9 = c .before .before .before .before .before .before .before .before .before in
-    omega (arith, c9 .if1 .taken)
+    let c10 = c .before .before .before .before .before .before .before .before .before .before in
+    omega (arith, c10 .if1 .taken)
 
 loop-again : tie.Need-loop-again Inv-loop μ-loop
 loop-again c =
-    let c3 = c .before .before .before in
+    let c3 = c .before .before .before .before in
     let c7 = c3 .before .before .before .before in
     let c9 = c7 .before .before in
     let c11 = c9 .before .before in
-    let c16 = c11 .before .before .before .before .before in
+    let c16 = c11 .before .before .before .before .before .before in
     let a = c16 .args in
     let i = c11 .loop in
     let h = c9 .if1 .taken in
@@ -71,9 +87,11 @@ loop-again c =
       λ g fm given ties.
           let x = Runs.search (machine g fm) (a .scope .slots) (i .start) in
           let fits = given-fits g fm (now (a .l)) (now (a .places)) (now (a .f)) (now (a .table)) (a .scope) given (i .start) h in
-          let turn = turn-as (one .result) true _ _ (c .if2 .taken) (one .ensures g fm x (c7 .search-from .ensures .0 g fm given h) fits ties) in
+          let answer = c7 .search-from .ensures .0 g fm given h (i .inv .4) in
+          let turn = turn-as (one .result) true _ _ (c .before .if2 .taken) (one .ensures g fm x answer fits ties) in
           so-far-next g fm (a .scope .slots) (now (a .rows)) (i .rows) (i .start) (omega (arith, given .events-are, h)) (i .inv .3 g fm given ties) _ fits k
           turn,
+      seen-next (now (a .l)) (now (a .places)) (a .scope .rules .fields) (i .start) (i .seen) _ (i .inv .4) (c .seen-after .ensures),
     )
 
 same-length : tie.Need-same-length Inv-loop μ-loop
@@ -88,7 +106,7 @@ returns c =
     let c7 = c3 .before .before .before .before in
     let c9 = c7 .before .before in
     let c11 = c9 .before .before in
-    let c16 = c11 .before .before .before .before .before in
+    let c16 = c11 .before .before .before .before .before .before in
     let a = c16 .args in
     let i = c11 .loop in
     let h = c9 .if1 .taken in
@@ -96,7 +114,7 @@ returns c =
     λ g fm given ties.
     let x = Runs.search (machine g fm) (a .scope .slots) (i .start) in
     let fits = given-fits g fm (now (a .l)) (now (a .places)) (now (a .f)) (now (a .table)) (a .scope) given (i .start) h in
-    let turn = turn-as (one .result) false _ _ (c .if2 .left) (one .ensures g fm x (c7 .search-from .ensures .0 g fm given h) fits ties) in
+    let turn = turn-as (one .result) false _ _ (c .if2 .left) (one .ensures g fm x (c7 .search-from .ensures .0 g fm given h (i .inv .4)) fits ties) in
     so-far-crowded g fm (a .scope .slots) (now (a .rows)) (i .rows) (i .start) (omega (arith, given .events-are, h)) (i .inv .3 g fm given ties) _ turn
 
 same-length-3 : tie.Need-same-length-3 Inv-loop μ-loop
@@ -108,8 +126,8 @@ same-length-4 c = search needs
 returns-2 : tie.Need-returns-2 Inv-loop μ-loop
 returns-2 c =
     let c2 = c .before .before in
-    let c7 = c2 .before .before .before .before .before in
-    let a = c7 .args in
+    let c8 = c2 .before .before .before .before .before .before in
+    let a = c8 .args in
     let i = c2 .loop in
     λ g fm given ties.
     so-far-all g fm (a .scope .slots) (now (a .rows)) (i .rows) (i .start) (omega (arith, given .events-are, c .if1 .left)) (i .inv .3 g fm given ties)
@@ -120,9 +138,11 @@ all-starts-spec =
     (tie.spec
     Inv-loop
     μ-loop
+    none-seen-requires
     loop-holds
     search-from-requires
     one-start-requires
+    seen-after-requires
     add-start
     loop-less
     loop-again

@@ -1,7 +1,7 @@
 -- `analysis_code::held_in` meets its contract: after v turns the lowest v bits are read.
 use lib.ListN.{length-set, length, take}
+use Rattle.base.specs.Mask.{bitsOf}
 use Rattle.analysis_code.proofs.Filling.{bits-next, fill-done}
-use Rattle.analysis_code.specs.inner.Starts.{bitsOf}
 use native.Mathlib.Omega.{arith}
 use mathlib.Core.List.{_++_}
 use mathlib.Core.Path.{_≡_, refl, ap}

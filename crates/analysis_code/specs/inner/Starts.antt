@@ -1,10 +1,11 @@
 -- Rows read back as the runs that they hold, and one start over rows already written.
-use Prim.Native.Nat.{ℕ, zero, suc, _-_, _*_, _/_, _%_, _≤_, min}
+use Prim.Native.Nat.{ℕ, zero, suc, _-_, _*_, _≤_, min}
 use mathlib.Core.Path.{_≡_}
 use mathlib.Core.Bool.{Bool, true, false, cond, not}
 use mathlib.Core.List.{List, [], _∷_, _++_}
 use lib.ListN.{length, getD, take, drop}
 use lib.Dec.{eqb}
+use Rattle.base.specs.Mask.{bitsOf}
 use Rattle.refusal.specs.declared.Refusal.the-variants.{Crowded}
 use Rattle.event_log.specs.Log.{Log}
 use Rattle.event_log.specs.File.{LogFile, logOf}
@@ -43,11 +44,6 @@ variables tied = variablesFrom 0 tied
 -- what the tie rule asks of one variable, where it is tied
 abbrev pub agrees : Bool → Bool → ℕ → Bool → ℕ → Bool
 agrees tied a x b y = cond tied (alike a b x y) true
-
--- the lowest n bits of a mask, "bit v set if variable v is held"
-unfoldable pub bitsOf : ℕ → ℕ → List Bool
-bitsOf zero m = []
-bitsOf (suc n) m = eqb (m % 2) 1 ∷ bitsOf n (m / 2)
 
 -- the run that the 12 words of a row hold
 unfoldable pub runIn : List ℕ → NamedRun

@@ -6,13 +6,13 @@ use mathlib.Core.List.{List, [], _∷_, _++_, map}
 use mathlib.Core.Option.{Option, none, some}
 use lib.ListN.{length, getD, set, replicate}
 use Rattle.base.specs.Mask.{bit}
-use Rattle.event_log.specs.Log.{Values, Log, eventAt}
+use Rattle.event_log.specs.Log.{Values, field, Log, eventAt}
 use Rattle.formula.specs.Formula.{Formula, Step, Clause, TEST, TESTV, BIND, GATHER}
 use Rattle.formula.specs.Lookup.{stepAt}
 use Rattle.runs.specs.Run.{Entry, Trail}
 use Rattle.machine.specs.Configuration.{Config, listOf}
 use Rattle.machine.specs.Guard.{sum, among, different}
-use Rattle.machine.specs.Firing.{field, gatherAll}
+use Rattle.machine.specs.Firing.{gatherAll}
 
 -- a state with the lists gathered on the way to it
 pub record Standing : Type 0 where

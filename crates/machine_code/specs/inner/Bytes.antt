@@ -5,6 +5,7 @@ use mathlib.Core.List.{List}
 use lib.ListN.{length, getD, set, replicate}
 use lib.Dec.{ltb, leb, eqb}
 use Rattle.base.specs.Value.{valueAt}
+use Rattle.event_log.specs.Log.{Values, present, field}
 use Rattle.machine_code.specs.declared.Configuration.{Configuration}
 use Rattle.machine_code.specs.declared.Fired.{Fired}
 use Rattle.machine_code.specs.declared.Gained.{Gained}
@@ -83,20 +84,37 @@ noted w next = record {
   grows = w .grows;
 }
 
--- the clause where the walk stands; `prior` are the values held before the step
-unfoldable pub clauseAt : List ℕ → List ℕ → List Bool → List ℕ → Walked → Walked
-clauseAt f prior rises event w =
+-- a walk at a clause whose field is present or absent: an absent one keeps the step from firing
+unfoldable pub met : Walked → Bool → Walked
+met w there = record {
+  at = w .at;
+  passes = w .passes && there;
+  due = w .due;
+  gathers = w .gathers;
+  held = w .held;
+  values = w .values;
+  grows = w .grows;
+}
+
+-- the clause where the walk stands, of a field with value x, which is there and rises or not; `prior` are the values held before the step
+unfoldable pub clauseOn : List ℕ → List ℕ → Walked → ℕ → Bool → Walked
+clauseOn f prior w x rises =
     cond (eqb (getD f (w .at) 0) 0x12)
-    (tested w (w .at + 7) (getD f (w .at + 2) 0) (getD event (getD f (w .at + 1) 0) 0) (valueAt f (w .at + 3)) (getD rises (getD f (w .at + 1) 0) false))
+    (tested w (w .at + 7) (getD f (w .at + 2) 0) x (valueAt f (w .at + 3)) rises)
     (cond (eqb (getD f (w .at) 0) 0x13)
-    (tested w (w .at + 4) (getD f (w .at + 2) 0) (getD event (getD f (w .at + 1) 0) 0) (getD prior (getD f (w .at + 3) 0) 0)
-    (getD rises (getD f (w .at + 1) 0) false))
+    (tested w (w .at + 4) (getD f (w .at + 2) 0) x (getD prior (getD f (w .at + 3) 0) 0) rises)
     (cond (eqb (getD f (w .at) 0) 0x17)
     (noted w (w .at + 3))
-    (bound w (w .at + 3) (getD f (w .at + 2) 0) (getD event (getD f (w .at + 1) 0) 0) (getD rises (getD f (w .at + 1) 0) false))))
+    (bound w (w .at + 3) (getD f (w .at + 2) 0) x rises)))
+
+-- the same, the field read from the event; one that never arrived does not rise
+unfoldable pub clauseAt : List ℕ → List ℕ → List Bool → Values → Walked → Walked
+clauseAt f prior rises event w =
+    clauseOn f prior (met w (present event (getD f (w .at + 1) 0))) (field event (getD f (w .at + 1) 0))
+    (getD rises (getD f (w .at + 1) 0) false && present event (getD f (w .at + 1) 0))
 
 -- the clauses from where the walk stands on, up to the first byte that is no clause's command
-unfoldable pub walkFrom : ℕ → List ℕ → List ℕ → List Bool → List ℕ → Walked → Walked
+unfoldable pub walkFrom : ℕ → List ℕ → List ℕ → List Bool → Values → Walked → Walked
 walkFrom zero f prior rises event w = w
 walkFrom (suc n) f prior rises event w =
     cond (isClause (getD f (w .at) 0)) (walkFrom n f prior rises event (clauseAt f prior rises event w)) w
@@ -114,7 +132,7 @@ begun at c = record {
 }
 
 -- the clauses of the STEP at an offset
-unfoldable pub walked : List ℕ → ℕ → Configuration → List Bool → List ℕ → Walked
+unfoldable pub walked : List ℕ → ℕ → Configuration → List Bool → Values → Walked
 walked f at c rises event = walkFrom (suc (length f)) f (c .values) rises event (begun at c)
 
 -- nothing gathered
@@ -134,20 +152,21 @@ unfoldable pub gathered : Gained → ℕ → ℕ → ℕ → Bool → List Bool 
 gathered g k o x rises fresh = cond (ltb (o - 8) 4) (gaining g (o - 8) x rises (getD fresh ((o - 8) * 8 + k) false)) g
 
 -- the clause at a place
-unfoldable pub gainAt : List ℕ → List Bool → List Bool → List ℕ → ℕ → Gained → Gained
+unfoldable pub gainAt : List ℕ → List Bool → List Bool → Values → ℕ → Gained → Gained
 gainAt f fresh rises event p g =
     cond (eqb (getD f p 0) 0x17)
-    (gathered g (getD f (p + 1) 0) (getD f (p + 2) 0) (getD event (getD f (p + 1) 0) 0) (getD rises (getD f (p + 1) 0) false) fresh)
+    (gathered g (getD f (p + 1) 0) (getD f (p + 2) 0) (field event (getD f (p + 1) 0))
+    (getD rises (getD f (p + 1) 0) false && present event (getD f (p + 1) 0)) fresh)
     g
 
 -- the clauses from a place on, up to the first byte that is no clause's command
-unfoldable pub gainFrom : ℕ → List ℕ → List Bool → List Bool → List ℕ → ℕ → Gained → Gained
+unfoldable pub gainFrom : ℕ → List ℕ → List Bool → List Bool → Values → ℕ → Gained → Gained
 gainFrom zero f fresh rises event p g = g
 gainFrom (suc n) f fresh rises event p g =
     cond (isClause (getD f p 0)) (gainFrom n f fresh rises event (p + widthOf (getD f p 0)) (gainAt f fresh rises event p g)) g
 
 -- what the clauses of the STEP at an offset gather, from these tallies on
-unfoldable pub gained : List ℕ → ℕ → List ℕ → List Bool → List Bool → List ℕ → Gained
+unfoldable pub gained : List ℕ → ℕ → List ℕ → List Bool → List Bool → Values → Gained
 gained f at ts fresh rises event = gainFrom (suc (length f)) f fresh rises event (at + 2) (kept ts)
 
 -- one added to a state's counter; a counter stops at 4294967295
@@ -170,7 +189,7 @@ firedBy f at c w counters ts = record {
 }
 
 -- whether the STEP at an offset fires, and the configuration that it leaves; past the end there is no step
-unfoldable pub fired : List ℕ → ℕ → Configuration → List Bool → List ℕ → Fired
+unfoldable pub fired : List ℕ → ℕ → Configuration → List Bool → Values → Fired
 fired f at c fresh event =
     cond (leb (length f) at) (record { fires = false; config = c })
     (firedBy f at c (walked f at c (replicate 8 false) event) (raised (c .counters) (c .state))
@@ -194,7 +213,7 @@ fallsBehind f p held grows g = fallsAt (leafMarked (falling held g)) (leafMarked
 abbrev pub lapsedBy : List ℕ → List Bool → Walked → List ℕ → Gained → Bool
 lapsedBy f held w counters g = w .due || (fallsBehind f (w .at) held (w .grows) g && not (guardBehind f w counters (g .tallies)))
 
-unfoldable pub lapsed : List ℕ → ℕ → Configuration → List Bool → List Bool → List ℕ → Bool
+unfoldable pub lapsed : List ℕ → ℕ → Configuration → List Bool → List Bool → Values → Bool
 lapsed f at c fresh rises event =
     cond (leb (length f) at) true
     (lapsedBy f (c .held) (walked f at c rises event) (raised (c .counters) (c .state)) (gained f at (c .tallies) fresh rises event))
@@ -207,10 +226,10 @@ unfoldable pub isStep : List ℕ → ℕ → Bool
 isStep f at = cond (eqb at 0) false (ltb at (length f))
 
 -- step k of the configuration's state fires on the event; it is expired by its values, as is one that is not there
-unfoldable pub firesAt : List ℕ → List ℕ → Configuration → List Bool → List ℕ → ℕ → Bool
+unfoldable pub firesAt : List ℕ → List ℕ → Configuration → List Bool → Values → ℕ → Bool
 firesAt f table c fresh event k = isStep f (offsetOf table (c .state) k) && (fired f (offsetOf table (c .state) k) c fresh event) .fires
 
-unfoldable pub expiresAt : List ℕ → List ℕ → Configuration → List Bool → List Bool → List ℕ → ℕ → Bool
+unfoldable pub expiresAt : List ℕ → List ℕ → Configuration → List Bool → List Bool → Values → ℕ → Bool
 expiresAt f table c fresh rises event k = not (isStep f (offsetOf table (c .state) k)) || lapsed f (offsetOf table (c .state) k) c fresh rises event
 
 -- "the lowest numbered step that fires": the first of n numbers from k on that passes the test, else the number behind them

@@ -40,14 +40,20 @@ scope-of-requires c κs = search needs
 places-1024 : (c : tie.Start) → length (c .args .files .log .places) ≡ 1024
 places-1024 c = search needs
 
+seen-before-requires : tie.Need-seen-before-requires
+seen-before-requires c κs =
+    let c7 = c .before .before .before .before .before .before .before in
+    let c13 = c7 .before .before .before .before .before .before in
+    (omega (arith, c7 .if1 .left, c13 .pre), places-1024 c13)
+
 search-from-requires : tie.Need-search-from-requires
 search-from-requires c κs =
-    let c3 = c .before .before .before in
-    let c4 = c3 .before in
-    let c8 = c4 .before .before .before .before in
-    let c15 = c8 .before .before .before .before .before .before .before in
-    let k = slots-fit (length (now (c15 .args .work))) (c8 .if2 .left) in
-    rw (c3 .scope-of .ensures, c4 .slots-of .ensures) (k .0, k .1, c15 .pre, places-1024 c15)
+    let c5 = c .before .before .before .before .before in
+    let c6 = c5 .before in
+    let c10 = c6 .before .before .before .before in
+    let c17 = c10 .before .before .before .before .before .before .before in
+    let k = slots-fit (length (now (c17 .args .work))) (c10 .if2 .left) in
+    rw (c5 .scope-of .ensures, c6 .slots-of .ensures) (k .0, k .1, c17 .pre, places-1024 c17)
 
 same-length : tie.Need-same-length
 same-length c = search needs
@@ -55,16 +61,17 @@ same-length c = search needs
 returns-3 : tie.Need-returns-3
 returns-3 c =
     let c6 = c .before .before .before .before .before .before in
-    let c7 = c6 .before in
-    let c11 = c7 .before .before .before .before in
-    let c12 = c11 .before in
-    let c18 = c12 .before .before .before .before .before .before in
-    let a = c18 .args in
-    let n = c7 .slots-of in
-    let s = c6 .scope-of in
+    let c8 = c6 .before .before in
+    let c9 = c8 .before in
+    let c13 = c9 .before .before .before .before in
+    let c14 = c13 .before in
+    let a = c14 .before .before .before .before .before .before .args in
+    let n = c9 .slots-of in
+    let s = c8 .scope-of in
+    let x = c6 .seen-before in
     let r = c .before .before .search-from in (
-      searched (now (a .l)) (now (a .f)) (a .files) (a .start) (now (a .work)) (n .result) _ (r .result) (c12 .if1 .left) (c11 .if2 .left)
-          (n .ensures) (rw (s .ensures) at (r .ensures .0)),
+      searched (now (a .l)) (now (a .f)) (a .files) (a .start) (now (a .work)) (n .result) _ (x .result) (r .result) (c14 .if1 .left) (c13 .if2 .left)
+          (n .ensures) (rw (s .ensures) at (x .ensures)) (rw (s .ensures) at (r .ensures .0)),
       (r .ensures .1 .1, rw (← n .ensures) (rw (s .ensures) at (r .ensures .1 .0))),
     )
 
@@ -78,6 +85,7 @@ checked-spec =
     returns-2
     slots-of-requires
     scope-of-requires
+    seen-before-requires
     search-from-requires
     same-length
     returns-3)

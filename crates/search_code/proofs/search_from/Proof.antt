@@ -2,7 +2,7 @@
 use borrow.Author.Needs.{needs}
 use native.Mathlib.Omega.{arith}
 use Prim.Native.Nat.{_-_, _≤_, _<_}
-use mathlib.Core.Path.{ap, _≡_, refl, _∙_, subst}
+use mathlib.Core.Path.{ap, _≡_, refl, sym, _∙_, subst}
 use Rattle.threads.specs.declared.Moment.{Moment}
 use Rattle.threads.specs.declared.Seats.{Seats}
 use denote.Ref.{now}
@@ -13,12 +13,12 @@ use Rattle.search_code.proofs.search_from.Statement.{statement}
 use Rattle.search_code.proofs.search_from.Tie as tie
 
 abbrev Inv-loop : tie.InvT-loop
-Inv-loop l places f table scope start work₀ wide rules slots half₀ count₀ width₀ n₀ work half count width n =
+Inv-loop l places f table scope start work₀ wide rules slots half₀ count₀ width₀ seen₀ n₀ work half count width seen n =
     (half < 2) × (count ≤ scope .slots) × (width ≤ scope .slots) × (length work ≡ length work₀)
-    × Searching l places f table scope start n half count width work
+    × Searching l places f table scope start seen₀ n half count width work seen
 
 abbrev μ-loop : tie.MeasureT-loop
-μ-loop l places f table scope start work₀ wide rules slots half₀ count₀ width₀ n₀ work half count width n = scope .events - n
+μ-loop l places f table scope start work₀ wide rules slots half₀ count₀ width₀ seen₀ n₀ work half count width seen n = scope .events - n
 
 origin-in-requires : tie.Need-origin-in-requires Inv-loop μ-loop
 origin-in-requires c κs =
@@ -38,7 +38,7 @@ loop-holds c =
       omega (arith, c9 .pre),
       omega arith,
       refl,
-      searching-start (now (a .l)) (now (a .places)) (now (a .f)) (now (a .table)) (a .scope) (a .start) (o .last .0) (o .ensures .0),
+      searching-start (now (a .l)) (now (a .places)) (now (a .f)) (now (a .table)) (a .scope) (a .start) (a .before) (o .last .0) (o .ensures .0),
     )
 
 mul-event-at : tie.Need-mul-event-at Inv-loop μ-loop
@@ -52,20 +52,21 @@ event-at-requires c κs = search needs
 
 moment-of-requires : tie.Need-moment-of-requires Inv-loop μ-loop
 moment-of-requires c κs =
-    let c6 = c .before .before .before .before .before .before in
-    let c18 = c6 .before .before .before .before .before .before .before .before .before .before .before .before in
-    omega (arith, c6 .if1 .taken, c18 .pre)
+    let c3 = c .before .before .before in
+    let c15 = c3 .before .before .before .before .before .before .before .before .before .before .before .before in
+    omega (arith, c3 .if1 .taken, c15 .pre)
 
 at-event-requires : tie.Need-at-event-requires Inv-loop μ-loop
 at-event-requires c κs =
-    let c7 = c .before .before .before .before .before .before .before in
-    let c9 = c7 .before .before in
-    let c14 = c9 .before .before .before .before .before in
-    let c19 = c14 .before .before .before .before .before in
-    let i = c9 .loop in
-    let k : length (i .work) ≡ length (now (c19 .args .work)) = i .inv .3 ∙ c14 .origin-in .ensures .1 in (
-      (omega (arith, k, c19 .pre), i .inv .0, i .inv .1),
-      omega (arith, ap (λ (m : Moment). m .number) (c .moment-of .ensures), c7 .if1 .taken, c19 .pre),
+    let c4 = c .before .before .before .before in
+    let c8 = c4 .before .before .before .before in
+    let c10 = c8 .before .before in
+    let c15 = c10 .before .before .before .before .before in
+    let c20 = c15 .before .before .before .before .before in
+    let i = c10 .loop in
+    let k : length (i .work) ≡ length (now (c20 .args .work)) = i .inv .3 ∙ c15 .origin-in .ensures .1 in (
+      (omega (arith, k, c20 .pre), i .inv .0, i .inv .1),
+      omega (arith, ap (λ (m : Moment). m .number) (c4 .moment-of .ensures), c8 .if1 .taken, c20 .pre),
       search needs,
     )
 
@@ -78,15 +79,15 @@ named-requires c κs = search needs
 same-length : tie.Need-same-length Inv-loop μ-loop
 same-length c =
     let c5 = c .before .before .before .before .before in
-    let c15 = c5 .before .before .before .before .before .before .before .before .before .before in
-    let c20 = c15 .before .before .before .before .before in
-    c5 .at-event .ensures .1 .1 ∙ c15 .loop .inv .3 ∙ c20 .origin-in .ensures .1
+    let c16 = c5 .before .before .before .before .before .before .before .before .before .before .before in
+    let c21 = c16 .before .before .before .before .before in
+    c5 .at-event .ensures .1 .1 ∙ c16 .loop .inv .3 ∙ c21 .origin-in .ensures .1
 
 returns : tie.Need-returns Inv-loop μ-loop
 returns c =
     let c5 = c .before .before .before .before .before in
-    let c6 = c5 .before in
-    let c11 = c6 .before .before .before .before .before in
+    let c6 = c5 .before .before .before .before .before in
+    let c11 = c6 .before .before in
     let c13 = c11 .before .before in
     let c15 = c13 .before .before in
     let c17 = c15 .before .before in
@@ -102,8 +103,8 @@ returns c =
     (c6 .moment-of .ensures)
     (at .ensures .0 (now (a .table)) (c17 .widened .ensures)) in
     let r =
-    searching-found (now (a .l)) (now (a .places)) (now (a .f)) (now (a .table)) (a .scope) (a .start) (i .n) (i .half) (i .count) (i .width) (i .work)
-    (i .inv .4) (c13 .if1 .taken) (load .result) (load .ensures) (at .last .0) (at .result) is (c .named .result) (c .before .enum-told .given .1) (i .inv .2)
+    searching-found (now (a .l)) (now (a .places)) (now (a .f)) (now (a .table)) (a .scope) (a .start) (a .before) (i .n) (i .half) (i .count) (i .width)
+    (i .work) (i .seen) (i .inv .4) (c13 .if1 .taken) (load .result) (load .ensures) (at .last .0) (at .result) is (c .named .result) (c .before .enum-told .given .1) (i .inv .2)
     (c .named .ensures) in
     (r .0, (r .1, at .ensures .1 .1 ∙ i .inv .3 ∙ c20 .origin-in .ensures .1))
 
@@ -116,15 +117,15 @@ refused-requires c κs = search needs
 same-length-2 : tie.Need-same-length-2 Inv-loop μ-loop
 same-length-2 c =
     let c5 = c .before .before .before .before .before in
-    let c15 = c5 .before .before .before .before .before .before .before .before .before .before in
-    let c20 = c15 .before .before .before .before .before in
-    c5 .at-event .ensures .1 .1 ∙ c15 .loop .inv .3 ∙ c20 .origin-in .ensures .1
+    let c16 = c5 .before .before .before .before .before .before .before .before .before .before .before in
+    let c21 = c16 .before .before .before .before .before in
+    c5 .at-event .ensures .1 .1 ∙ c16 .loop .inv .3 ∙ c21 .origin-in .ensures .1
 
 returns-2 : tie.Need-returns-2 Inv-loop μ-loop
 returns-2 c =
     let c5 = c .before .before .before .before .before in
-    let c6 = c5 .before in
-    let c11 = c6 .before .before .before .before .before in
+    let c6 = c5 .before .before .before .before .before in
+    let c11 = c6 .before .before in
     let c13 = c11 .before .before in
     let c15 = c13 .before .before in
     let c17 = c15 .before .before in
@@ -140,8 +141,8 @@ returns-2 c =
     (c6 .moment-of .ensures)
     (at .ensures .0 (now (a .table)) (c17 .widened .ensures)) in
     let r =
-    searching-crowded (now (a .l)) (now (a .places)) (now (a .f)) (now (a .table)) (a .scope) (a .start) (i .n) (i .half) (i .count) (i .width) (i .work)
-    (i .inv .4) (c13 .if1 .taken) (load .result) (load .ensures) (at .last .0) (at .result) is (c .refused .result) (c .before .enum-told2 .given .1)
+    searching-crowded (now (a .l)) (now (a .places)) (now (a .f)) (now (a .table)) (a .scope) (a .start) (a .before) (i .n) (i .half) (i .count) (i .width)
+    (i .work) (i .seen) (i .inv .4) (c13 .if1 .taken) (load .result) (load .ensures) (at .last .0) (at .result) is (c .refused .result) (c .before .enum-told2 .given .1)
     (c .refused .ensures) in
     (r .0, (r .1, at .ensures .1 .1 ∙ i .inv .3 ∙ c20 .origin-in .ensures .1))
 
@@ -153,23 +154,23 @@ larger-requires c κs = search needs
 
 sub-half : tie.Need-sub-half Inv-loop μ-loop
 sub-half c =
-    let c16 = c .before .before .before .before .before .before .before .before .before .before .before .before .before .before .before .before in
-    omega (arith, c16 .loop .inv .0)
+    let c17 = c .before .before .before .before .before .before .before .before .before .before .before .before .before .before .before .before .before in
+    omega (arith, c17 .loop .inv .0)
 
 onward-requires : tie.Need-onward-requires Inv-loop μ-loop
 onward-requires c κs = search needs
 
 loop-less : tie.Need-loop-less Inv-loop μ-loop
 loop-less c =
-    let c15 = c .before .before .before .before .before .before .before .before .before .before .before .before .before .before .before in
-    omega (arith, c .onward .ensures .1, c15 .if1 .taken)
+    let c16 = c .before .before .before .before .before .before .before .before .before .before .before .before .before .before .before .before in
+    omega (arith, c .onward .ensures .1, c16 .if1 .taken)
 
 loop-again : tie.Need-loop-again Inv-loop μ-loop
 loop-again c =
     let c3 = c .before .before .before in
     let c7 = c3 .before .before .before .before in
-    let c8 = c7 .before in
-    let c13 = c8 .before .before .before .before .before in
+    let c8 = c7 .before .before .before .before .before in
+    let c13 = c8 .before .before in
     let c15 = c13 .before .before in
     let c17 = c15 .before .before in
     let c19 = c17 .before .before in
@@ -188,10 +189,13 @@ loop-again c =
     let larger = c .before .larger in
     let widest : larger .result ≤ a .scope .slots = omega (arith, larger .ensures, i .inv .2) in
     let s =
-    searching-next (now (a .l)) (now (a .places)) (now (a .f)) (now (a .table)) (a .scope) (a .start) (i .n) (i .half) (i .count) (i .width) (i .work)
-    (i .inv .4) (c15 .if1 .taken) (load .result) (load .ensures) (at .last .0) (at .result) is (more .0 .0) (c .onward .result) (more .1)
+    searching-next (now (a .l)) (now (a .places)) (now (a .f)) (now (a .table)) (a .scope) (a .start) (a .before) (i .n) (i .half) (i .count) (i .width)
+    (i .work) (i .seen) (i .inv .4) (c15 .if1 .taken) (load .result) (load .ensures) (at .last .0) (at .result) is (more .0 .0) (c .onward .result) (more .1)
     (c .onward .ensures .0) in
-    (omega arith, fits, widest, at .ensures .1 .1 ∙ i .inv .3, rw (larger .ensures) s)
+    let carried =
+    subst (Searching (now (a .l)) (now (a .places)) (now (a .f)) (now (a .table)) (a .scope) (a .start) (a .before) (c .onward .result) (1 - i .half) (more .0 .0)
+    (larger .result) (at .last .0)) (sym (ap (λ (m : Moment). m .latest) (c8 .moment-of .ensures))) (rw (larger .ensures) s) in
+    (omega arith, fits, widest, at .ensures .1 .1 ∙ i .inv .3, carried)
 
 no-run-requires : tie.Need-no-run-requires Inv-loop μ-loop
 no-run-requires c κs = search needs
@@ -210,8 +214,8 @@ returns-3 c =
     let a = c13 .args in
     let i = c3 .loop in
     let r =
-    searching-over (now (a .l)) (now (a .places)) (now (a .f)) (now (a .table)) (a .scope) (a .start) (i .n) (i .half) (i .count) (i .width) (i .work)
-    (i .inv .4) (c .no-run .result) (c .before .if1 .left) (i .inv .2) (c .no-run .ensures) in
+    searching-over (now (a .l)) (now (a .places)) (now (a .f)) (now (a .table)) (a .scope) (a .start) (a .before) (i .n) (i .half) (i .count) (i .width)
+    (i .work) (i .seen) (i .inv .4) (c .no-run .result) (c .before .if1 .left) (i .inv .2) (c .no-run .ensures) in
     (r .0, (r .1, i .inv .3 ∙ c8 .origin-in .ensures .1))
 
 pub search-from-spec : {M : Type 1} → statement M

@@ -1,5 +1,5 @@
 -- What the functions of a search are asked: what one event does, and the search from a start.
-use Prim.Native.Nat.{ℕ, _-_, _≤_, _<_}
+use Prim.Native.Nat.{ℕ, zero, suc, _-_, _≤_, _<_}
 use mathlib.Core.Path.{_≡_}
 use mathlib.Core.Bool.{cond}
 use mathlib.Core.List.{List, []}
@@ -10,7 +10,10 @@ use Rattle.base.specs.Lists.{pad}
 use Rattle.event_log.specs.Log.{Log}
 use Rattle.event_log.specs.declared.Event.{Event}
 use Rattle.event_log.specs.declared.LogReading.{LogReading}
-use Rattle.event_log.specs.inner.Loading.{Leads}
+use Rattle.event_log.specs.declared.Latest.{Latest}
+use Rattle.event_log.specs.Arrays.{latestOf}
+use Rattle.event_log.specs.inner.Loading.{loadedAt, Leads}
+use Rattle.event_log.specs.inner.Carrying.{laterOf}
 use Rattle.formula.specs.Formula.{Formula}
 use Rattle.formula_code.specs.declared.FormulaReading.{FormulaReading}
 use Rattle.runs.specs.Order.{events, numbers}
@@ -34,9 +37,14 @@ use Rattle.search_code.specs.declared.Entries.{Entries}
 use Rattle.search_code.specs.declared.Scope.{Scope}
 use Rattle.search.specs.Search.{answerOf}
 
--- event n, judged by its own values: it has one for each field
-abbrev pub momentOf : ℕ → Event → Moment
-momentOf n e = record { number = n; event = e; latest = record { values = e .values } }
+-- the last present values before event n, of the events that a table of places leads to
+unfoldable pub seenTo : List ℕ → List ℕ → ℕ → ℕ → Latest
+seenTo l places fields zero = latestOf []
+seenTo l places fields (suc n) = laterOf (seenTo l places fields n) ((loadedAt l fields (getD places n 0)) .event)
+
+-- event n, judged by the last present values up to it: `seen` has those before it
+abbrev pub momentOf : ℕ → Latest → Event → Moment
+momentOf n seen e = record { number = n; event = e; latest = laterOf seen e }
 
 -- "unused entries 0": the events and the step numbers of a thread's trail as arrays
 abbrev pub entriesOf : Thread → Entries
@@ -100,7 +108,7 @@ pub record Given (g : Log) (fm : Formula) (l places f table : List ℕ) (scope :
   pub leads : Leads l places g
   pub events-are : scope .events ≡ length (g .events)
 
--- the search's answer
-abbrev pub SearchedFrom : List ℕ → List ℕ → List ℕ → List ℕ → Scope → ℕ → SearchAnswer → Type 0
-SearchedFrom l places f table scope start r =
-    (g : Log) (fm : Formula) → Given g fm l places f table scope → start < scope .events → r ≡ answerOf g fm (Runs.search (machine g fm) (scope .slots) start)
+-- the search's answer, given the last present values before its start
+abbrev pub SearchedFrom : List ℕ → List ℕ → List ℕ → List ℕ → Scope → ℕ → Latest → SearchAnswer → Type 0
+SearchedFrom l places f table scope start seen r =
+    (g : Log) (fm : Formula) → Given g fm l places f table scope → start < scope .events → seen ≡ seenTo l places (scope .rules .fields) start → r ≡ answerOf g fm (Runs.search (machine g fm) (scope .slots) start)

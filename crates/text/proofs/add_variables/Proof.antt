@@ -3,7 +3,8 @@ use Prim.Native.Nat.{_≤_, _-_, _*_, _/_, _^_}
 use mathlib.Core.Path.{_≡_, refl, _∙_}
 use lib.ListN.{length, getD}
 use native.Mathlib.Omega.{arith}
-use Rattle.text.proofs.Parts.{none-yet, one-more, held-is, next-bit}
+use Rattle.text.proofs.Parts.{none-yet, one-more, held-is}
+use Rattle.base.proofs.Masks.{halve}
 use Rattle.text.specs.inner.Adds.{Adds}
 use Rattle.text.specs.Text.{each, held, variables}
 use borrow.Author.Needs.{needs}
@@ -48,7 +49,7 @@ loop-again c = let p = c .before .before in
     let e = i .inv .2 in (
       omega arith,
       p .add-variable .kept .1 .1 .1 .0 ∙ i .inv .1,
-      next-bit (getD (a .t1) 3 0) (i .v) (i .rest) e,
+      halve (getD (a .t1) 3 0) (i .v) (i .rest) e,
       one-more (held (a .t1)) (i .v) (held-is (a .t1) (i .v) (i .rest) e) (i .inv .3) (p .add-variable .ensures),
     )
 

@@ -5,10 +5,10 @@ use mathlib.Core.Bool.{Bool, true, false}
 use mathlib.Core.Logic.{_⊎_}
 use mathlib.Core.List.{List, [], _∷_, _++_}
 use mathlib.Core.Option.{Option, none, some}
-use lib.ListN.{length}
+use lib.ListN.{length, getD}
 use lib.Dec.{eqb}
 use Rattle.base.specs.Lists.{sameList}
-use Rattle.event_log.specs.Log.{Log}
+use Rattle.event_log.specs.Log.{Log, Values, field}
 use Rattle.formula.specs.Formula.{Formula}
 use Rattle.runs.specs.inner.Lists.{only, keep}
 use Rattle.runs.specs.inner.Search as Runs
@@ -142,13 +142,13 @@ ListsIs l places f table rules trail steps r =
 abbrev pub NewIs : List ℕ → List ℕ → List ℕ → List ℕ → Rules → List ℕ → ℕ → List ℕ → List Bool → Type 0
 NewIs l places f table rules trail steps values r =
     (g : Log) (fm : Formula) (m : Moment) → Scene g fm l places f table rules m → (t : Thread) → t .trail ≡ trail → t .steps ≡ steps → Fit g fm t
-    → IsFresh (gathered g fm (trailOf t)) values r
+    → (e : Values) → ((k : ℕ) → k < 8 → getD values k 0 ≡ field e k) → IsFresh (gathered g fm (trailOf t)) e r
 
 -- and so for a thread that has these tallies
 abbrev pub FreshIs : List ℕ → List ℕ → List ℕ → List ℕ → Rules → List ℕ → List ℕ → ℕ → List ℕ → List Bool → Type 0
 FreshIs l places f table rules tallies trail steps values r =
     (g : Log) (fm : Formula) (m : Moment) → Scene g fm l places f table rules m → (t : Thread) → t .config .tallies ≡ tallies → t .trail ≡ trail
-    → t .steps ≡ steps → Fit g fm t → IsFresh (gathered g fm (trailOf t)) values r
+    → t .steps ≡ steps → Fit g fm t → (e : Values) → ((k : ℕ) → k < 8 → getD values k 0 ≡ field e k) → IsFresh (gathered g fm (trailOf t)) e r
 
 -- two threads with the same words have gathered the same lists
 abbrev pub SameListsIs : List ℕ → List ℕ → List ℕ → List ℕ → Rules → Thread → Thread → Bool → Type 0

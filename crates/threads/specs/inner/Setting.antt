@@ -1,11 +1,12 @@
 -- What the functions of one event are given of the two files: the formula's bytes and what its reader and the log's reader found.
-use Prim.Native.Nat.{ℕ, _+_, _<_, _≤_}
+use Prim.Native.Nat.{ℕ, suc, _+_, _<_, _≤_}
 use mathlib.Core.Path.{_≡_}
 use mathlib.Core.Bool.{Bool, true, false}
 use mathlib.Core.List.{List, map}
 use lib.ListN.{length, getD}
 use Rattle.base.specs.Lists.{All, pad}
-use Rattle.event_log.specs.Log.{Log, eventAt}
+use Rattle.event_log.specs.Log.{Log, Values, eventAt}
+use Rattle.event_log.specs.Arrays.{eventOf, latestOf, inEvent, inLatest}
 use Rattle.event_log.specs.Latest.{latest}
 use Rattle.event_log.specs.Correct as LogCorrect
 use Rattle.event_log.specs.Read.{rises}
@@ -41,20 +42,20 @@ pub record Setting (g : Log) (fm : Formula) (f table : List ℕ) (rules : Rules)
 
 -- what an event's table has for a step that stands at `at`: that offset, or 0 where the step does not fire on the event, whatever
 -- the configuration
-pub data Firing (f event : List ℕ) (at entry : ℕ) : Type 0 where
+pub data Firing (f : List ℕ) (event : Values) (at entry : ℕ) : Type 0 where
   stands : entry ≡ at → Firing f event at entry
   barred : entry ≡ 0 → ((fresh : List Bool) (c : Configuration) → (fired f at c fresh event) .fires ≡ false) → Firing f event at entry
 
 -- and in its second half: that offset, or 0 where the step is expired after the event, whatever the configuration
-pub data Lasting (f : List ℕ) (rises : List Bool) (latest : List ℕ) (at entry : ℕ) : Type 0 where
+pub data Lasting (f : List ℕ) (rises : List Bool) (latest : Values) (at entry : ℕ) : Type 0 where
   lasts : entry ≡ at → Lasting f rises latest at entry
   due : entry ≡ 0 → ((fresh : List Bool) (c : Configuration) → lapsed f at c fresh rises latest ≡ true) → Lasting f rises latest at entry
 
 -- the table of an event, from the table of the formula's steps, which its third part has as they are
 pub record EventTable (f steps : List ℕ) (rises : List Bool) (m : Moment) (table : List ℕ) : Type 0 where
   pub sized : length table ≡ 384
-  pub fires : (i : ℕ) → i < 128 → Firing f (m .event .values) (getD steps i 0) (getD table i 0)
-  pub lapses : (i : ℕ) → i < 128 → Lasting f rises (m .latest .values) (getD steps i 0) (getD table (128 + i) 0)
+  pub fires : (i : ℕ) → i < 128 → Firing f (inEvent (m .event)) (getD steps i 0) (getD table i 0)
+  pub lapses : (i : ℕ) → i < 128 → Lasting f rises (inLatest (m .latest)) (getD steps i 0) (getD table (128 + i) 0)
   pub plain : (i : ℕ) → i < 128 → getD table (256 + i) 0 ≡ getD steps i 0
 
 -- the three parts before the event says anything: the table of the formula's steps, three times
@@ -65,10 +66,10 @@ pub record Wide (steps table : List ℕ) : Type 0 where
   pub third : (i : ℕ) → i < 128 → getD table (256 + i) 0 ≡ getD steps i 0
 
 -- what is told of a step by these values leaves it the table of an event that has them
-abbrev pub MarkedBy : List ℕ → List ℕ → List Bool → List ℕ → List ℕ → List ℕ → List ℕ → Type 0
+abbrev pub MarkedBy : List ℕ → List ℕ → List Bool → Values → Values → List ℕ → List ℕ → Type 0
 MarkedBy f steps rises event latest before after =
     (length after ≡ length before)
-    × ((m : Moment) → m .event .values ≡ event → m .latest .values ≡ latest → EventTable f steps rises m before → EventTable f steps rises m after)
+    × ((m : Moment) → inEvent (m .event) ≡ event → inLatest (m .latest) ≡ latest → EventTable f steps rises m before → EventTable f steps rises m after)
 
 -- what is told of some steps leaves it the event's table
 abbrev pub MarkedIs : List ℕ → List ℕ → List Bool → Moment → List ℕ → List ℕ → Type 0
@@ -77,8 +78,8 @@ MarkedIs f steps rises m before after = (length after ≡ length before) × (Eve
 -- the structs hold the values of the event with that number, and those by which steps are judged expired after it
 pub record Loads (g : Log) (m : Moment) : Type 0 where
   pub there : m .number < length (g .events)
-  pub values : m .event .values ≡ pad 8 0 ((eventAt g (m .number)) .values)
-  pub latest-are : m .latest .values ≡ pad 8 0 (latest g (m .number))
+  pub event-is : m .event ≡ eventOf ((eventAt g (m .number)) .values)
+  pub latest-is : m .latest ≡ latestOf (latest g (suc (m .number)))
 
 -- what the functions of one event are given: the setting, the log's bytes and where its events stand, the event, and the event's table
 pub record Scene (g : Log) (fm : Formula) (l places f table : List ℕ) (rules : Rules) (m : Moment) : Type 0 where

@@ -1,6 +1,9 @@
--- `clauses::clause` meets its contract: by the command byte, its operands read where they stand.
+-- `clauses::clause` meets its contract: the field is read where it stands.
 use denote.Ref.{now}
-use Rattle.machine_code.proofs.ClausesOnBytes.{clause-test, clause-testv, clause-note, clause-bind}
+use native.Mathlib.Omega.{arith}
+use mathlib.Core.Path.{ap, _∙_}
+use Rattle.machine_code.specs.declared.Walked.{Walked}
+use Rattle.machine_code.proofs.ClausesOnBytes.{clause-read, meet-at}
 use borrow.Author.Needs.{needs}
 use Rattle.machine_code.proofs.clauses.clause.Statement.{statement}
 use Rattle.machine_code.proofs.clauses.clause.Tie as tie
@@ -11,114 +14,46 @@ add-byte-at c = search needs
 byte-at-requires : tie.Need-byte-at-requires
 byte-at-requires c κs = search needs
 
-slice-aggregate-value-of : tie.Need-slice-aggregate-value-of
-slice-aggregate-value-of c = search needs
-
-value-of-requires : tie.Need-value-of-requires
-value-of-requires c κs = search needs
-
 slice-aggregate-mark-of : tie.Need-slice-aggregate-mark-of
 slice-aggregate-mark-of c = search needs
 
 mark-of-requires : tie.Need-mark-of-requires
 mark-of-requires c κs = search needs
 
-add-byte-at-2 : tie.Need-add-byte-at-2
-add-byte-at-2 c = search needs
+slice-aggregate-reading : tie.Need-slice-aggregate-reading
+slice-aggregate-reading c = search needs
 
-byte-at-requires-2 : tie.Need-byte-at-requires-2
-byte-at-requires-2 c κs = search needs
+slice-aggregate-reading-2 : tie.Need-slice-aggregate-reading-2
+slice-aggregate-reading-2 c = search needs
 
-byte-at-requires-3 : tie.Need-byte-at-requires-3
-byte-at-requires-3 c κs = search needs
+reading-requires : tie.Need-reading-requires
+reading-requires c κs = search needs
 
-add-test : tie.Need-add-test
-add-test c = search needs
+slice-aggregate-mark-of-2 : tie.Need-slice-aggregate-mark-of-2
+slice-aggregate-mark-of-2 c = search needs
 
-add-value-at : tie.Need-add-value-at
-add-value-at c = search needs
+mark-of-requires-2 : tie.Need-mark-of-requires-2
+mark-of-requires-2 c κs = search needs
 
-value-at-requires : tie.Need-value-at-requires
-value-at-requires c κs = search needs
+both-requires : tie.Need-both-requires
+both-requires c κs = search needs
 
-test-requires : tie.Need-test-requires
-test-requires c κs = search needs
+meet-requires : tie.Need-meet-requires
+meet-requires c κs = search needs
 
-add-test-2 : tie.Need-add-test-2
-add-test-2 c = search needs
-
-slice-aggregate-value-of-2 : tie.Need-slice-aggregate-value-of-2
-slice-aggregate-value-of-2 c = search needs
-
-add-byte-at-3 : tie.Need-add-byte-at-3
-add-byte-at-3 c = search needs
-
-byte-at-requires-4 : tie.Need-byte-at-requires-4
-byte-at-requires-4 c κs = search needs
-
-value-of-requires-2 : tie.Need-value-of-requires-2
-value-of-requires-2 c κs = search needs
-
-test-requires-2 : tie.Need-test-requires-2
-test-requires-2 c κs = search needs
-
-add-note : tie.Need-add-note
-add-note c = search needs
-
-note-requires : tie.Need-note-requires
-note-requires c κs = search needs
-
-add-bind : tie.Need-add-bind
-add-bind c = search needs
-
-bind-requires : tie.Need-bind-requires
-bind-requires c κs = search needs
+clause-on-requires : tie.Need-clause-on-requires
+clause-on-requires c κs =
+    let a = c .before .before .before .before .before .before .before .before .before .before .before .before .args in
+    omega (arith, ap (λ (w : Walked). w .at) (c .meet .ensures) ∙ meet-at (a .w) _, c .before .before .before .before .before .before .before .before .before .before .before .before .pre)
 
 returns : tie.Need-returns
 returns c =
-    let c3 = c .before .before .before in
-    let c3 = c3 in
-    let c7 = c3 .before .before .before .before in
-    let a = c7 .before .before .before .before .args in
-    clause-test (now (a .f)) (a .t3) (a .t4) (a .t5) (a .w) (c7 .before .before .byte-at .result) (c7 .value-of .result)
-    (c3 .before .byte-at2 .result) (c3 .byte-at3 .result) (c3 .before .before .mark-of .result) (c7 .before .before .byte-at .ensures .0)
-    (c7 .value-of .ensures) (c3 .before .before .mark-of .ensures) (c3 .before .byte-at2 .ensures .0) (c3 .byte-at3 .ensures .0)
-    (c .before .value-at .result) _ (c .before .before .match .keys1) (c .before .value-at .ensures) (c .test .ensures)
-
-returns-2 : tie.Need-returns-2
-returns-2 c =
-    let c4 = c .before .before .before .before in
-    let c4 = c4 in
-    let c7 = c4 .before .before .before in
-    let c11 = c7 .before .before .before .before in
-    let a = c11 .before .before .args in
-    clause-testv (now (a .f)) (a .t3) (a .t4) (a .t5) (a .w) (c11 .byte-at .result) (c7 .before .before .value-of .result)
-    (c4 .before .before .byte-at2 .result) (c4 .before .byte-at3 .result) (c7 .mark-of .result) (c11 .byte-at .ensures .0)
-    (c7 .before .before .value-of .ensures) (c7 .mark-of .ensures) (c4 .before .before .byte-at2 .ensures .0) (c4 .before .byte-at3 .ensures .0)
-    (c .before .before .byte-at4 .result) (c .before .value-of2 .result) _ (c4 .match .keys2) (c .before .before .byte-at4 .ensures .0)
-    (c .before .value-of2 .ensures) (c .test2 .ensures)
-
-returns-3 : tie.Need-returns-3
-returns-3 c =
-    let c3 = c .before .before .before in
-    let c3 = c3 in
-    let c6 = c3 .before .before .before in
-    let a = c6 .before .before .before .before .args in
-    clause-note (now (a .f)) (a .t3) (a .t4) (a .t5) (a .w) (c6 .before .before .byte-at .result) (c6 .value-of .result) (c3 .byte-at2 .result)
-    (c .before .before .byte-at3 .result) (c3 .before .mark-of .result) (c6 .before .before .byte-at .ensures .0) (c6 .value-of .ensures)
-    (c3 .before .mark-of .ensures) (c3 .byte-at2 .ensures .0) (c .before .before .byte-at3 .ensures .0) _
-    (c .before .match .keys3) (c .note .ensures)
-
-returns-4 : tie.Need-returns-4
-returns-4 c =
-    let c3 = c .before .before .before in
-    let c3 = c3 in
-    let c6 = c3 .before .before .before in
-    let a = c6 .before .before .before .before .args in
-    clause-bind (now (a .f)) (a .t3) (a .t4) (a .t5) (a .w) (c6 .before .before .byte-at .result) (c6 .value-of .result) (c3 .byte-at2 .result)
-    (c .before .before .byte-at3 .result) (c3 .before .mark-of .result) (c6 .before .before .byte-at .ensures .0) (c6 .value-of .ensures)
-    (c3 .before .mark-of .ensures) (c3 .byte-at2 .ensures .0) (c .before .before .byte-at3 .ensures .0) _ (c .before .match .rest .0 .0 .1)
-    (c .before .match .rest .0 .1) (c .before .match .rest .1) (c .bind .ensures)
+    let c5 = c .before .before .before .before .before in
+    let c10 = c5 .before .before .before .before .before in
+    let a = c10 .before .before .before .args in
+    clause-read (now (a .f)) (a .prior) (a .t4) (a .t6) (a .t5) (a .w) (c .before .meet .result) _ (c10 .byte-at .result) (c5 .reading .result)
+    (c5 .before .before .before .mark-of .result) (c .before .before .before .mark-of2 .result) (c .before .before .both .result) (c10 .byte-at .ensures .0) (c5 .before .before .before .mark-of .ensures)
+    (c5 .reading .ensures) (c .before .before .before .mark-of2 .ensures) (c .before .before .both .ensures) (c .before .meet .ensures) (c .clause-on .ensures)
 
 pub clause-spec : {M : Type 1} → statement M
 clause-spec =
@@ -126,28 +61,14 @@ clause-spec =
     (tie.spec
     add-byte-at
     byte-at-requires
-    slice-aggregate-value-of
-    value-of-requires
     slice-aggregate-mark-of
     mark-of-requires
-    add-byte-at-2
-    byte-at-requires-2
-    byte-at-requires-3
-    add-test
-    add-value-at
-    value-at-requires
-    test-requires
-    add-test-2
-    slice-aggregate-value-of-2
-    add-byte-at-3
-    byte-at-requires-4
-    value-of-requires-2
-    test-requires-2
-    add-note
-    note-requires
-    add-bind
-    bind-requires
-    returns
-    returns-2
-    returns-3
-    returns-4)
+    slice-aggregate-reading
+    slice-aggregate-reading-2
+    reading-requires
+    slice-aggregate-mark-of-2
+    mark-of-requires-2
+    both-requires
+    meet-requires
+    clause-on-requires
+    returns)

@@ -1,5 +1,6 @@
 -- `gaining::gain_all` meets its contract: what is left of the clauses gives the whole.
 use denote.Ref.{now}
+use Rattle.event_log.specs.Event.{together}
 use Prim.Native.Nat.{suc, _-_}
 use mathlib.Core.Path.{_≡_, sym, ap, _∙_}
 use native.Mathlib.Omega.{arith}
@@ -13,10 +14,11 @@ use Rattle.machine_code.proofs.gaining.gain_all.Statement.{statement}
 use Rattle.machine_code.proofs.gaining.gain_all.Tie as tie
 
 abbrev Inv-loop : tie.InvT-loop
-Inv-loop f at fresh rises event g₀ place₀ g place = Left f fresh rises event (gainFrom (suc (length f)) f fresh rises event place₀ g₀) place g
+Inv-loop f at fresh rises event there g₀ place₀ g place =
+    Left f fresh rises (together there event) (gainFrom (suc (length f)) f fresh rises (together there event) place₀ g₀) place g
 
 abbrev μ-loop : tie.MeasureT-loop
-μ-loop f at fresh rises event g₀ place₀ g place = length f - place
+μ-loop f at fresh rises event there g₀ place₀ g place = length f - place
 
 keep-requires : tie.Need-keep-requires Inv-loop μ-loop
 keep-requires c κs = search needs
@@ -26,7 +28,7 @@ add-place c = search needs
 
 loop-holds : tie.Need-loop-holds Inv-loop μ-loop
 loop-holds c =
-    let a = c .before .before .args in left-start (now (a .f)) (a .fresh) (a .rises) (a .event) _ _
+    let a = c .before .before .args in left-start (now (a .f)) (a .fresh) (a .rises) (together (a .there) (a .event)) _ _
 
 is-clause-requires : tie.Need-is-clause-requires Inv-loop μ-loop
 is-clause-requires c κs = search needs
@@ -66,7 +68,7 @@ loop-again c =
     let c4 = c .before .before .before .before in
     let a = c4 .before .before .before .before .args in
     let l = c4 .before .loop in
-    left-next (now (a .f)) (a .fresh) (a .rises) (a .event) _ (l .place) (l .g) (l .inv) _ _
+    left-next (now (a .f)) (a .fresh) (a .rises) (together (a .there) (a .event)) _ (l .place) (l .g) (l .inv) _ _
     (sym (c4 .is-clause .ensures) ∙ c .before .before .before .if1 .taken)
     (c .before .width .ensures ∙ ap widthOf (c .before .before .byte-at .ensures .0)) (c .gain .ensures)
 
@@ -75,8 +77,8 @@ returns c =
     let c3 = c .before .before .before in
     let a = c3 .before .before .args in
     let l = c .before .before .loop in
-    gained-from (now (a .f)) (a .fresh) (a .rises) (a .event) (a .at) (a .tallies) (c3 .keep .result) _ (c3 .keep .ensures)
-    (left-done (now (a .f)) (a .fresh) (a .rises) (a .event) _ (l .place) (l .g) (l .inv) (sym (c .before .is-clause .ensures) ∙ c .if1 .left))
+    gained-from (now (a .f)) (a .fresh) (a .rises) (together (a .there) (a .event)) (a .at) (a .tallies) (c3 .keep .result) _ (c3 .keep .ensures)
+    (left-done (now (a .f)) (a .fresh) (a .rises) (together (a .there) (a .event)) _ (l .place) (l .g) (l .inv) (sym (c .before .is-clause .ensures) ∙ c .if1 .left))
 
 pub gain-all-spec : {M : Type 1} → statement M
 gain-all-spec =

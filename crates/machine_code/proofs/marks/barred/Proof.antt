@@ -1,5 +1,6 @@
 -- `marks::barred` meets its contract: a TEST that is false keeps every walk from passing.
 use denote.Ref.{now}
+use Rattle.event_log.specs.Event.{together}
 use mathlib.Core.Path.{refl, _∙_, sym}
 use Prim.Native.Nat.{_+_, _-_, _≤_}
 use lib.ListN.{length}
@@ -11,22 +12,22 @@ use Rattle.machine_code.proofs.marks.barred.Statement.{statement}
 use Rattle.machine_code.proofs.marks.barred.Tie as tie
 
 abbrev Inv-loop : tie.InvT-loop
-Inv-loop f at event place₀ place = (place ≤ length f + 1) × Reaches f at place
+Inv-loop f at event there place₀ place = (place ≤ length f + 1) × Reaches f at place
 
 abbrev μ-loop : tie.MeasureT-loop
-μ-loop f at event place₀ place = length f - place
+μ-loop f at event there place₀ place = length f - place
 
 returns : tie.Need-returns Inv-loop μ-loop
 returns c = λ n. absurd (n refl)
 
 add-place : tie.Need-add-place Inv-loop μ-loop
-add-place c = omega (arith, c .if1 .left, c .before .before .before .good)
+add-place c = omega (arith, c .if1 .left, c .before .before .before .before .good)
 
 loop-holds : tie.Need-loop-holds Inv-loop μ-loop
 loop-holds c = (omega (arith, c .if1 .left), begins)
 
 add-loop : tie.Need-add-loop Inv-loop μ-loop
-add-loop c = omega (arith, c .loop .inv .0, c .before .before .before .before .good)
+add-loop c = omega (arith, c .loop .inv .0, c .before .before .before .before .before .good)
 
 shared-slice-read-wide : tie.Need-shared-slice-read-wide Inv-loop μ-loop
 shared-slice-read-wide c = omega (arith, c .before .loop-test .taken)
@@ -45,13 +46,13 @@ fails-requires c κs = c .before .before .before .before .loop-test .taken
 
 returns-3 : tie.Need-returns-3 Inv-loop μ-loop
 returns-3 c =
-    let a = c .before .before .before .before .before .before .before .before .before .before .before .args in
+    let a = c .before .before .before .before .before .before .before .before .before .before .before .before .args in
     let l = c .before .before .before .before .before .before .before .loop in
     let w = c .before .before .before .width in
     let b = c .before .before .before .before .wide in
     λ n. (
-      silent-here (now (a .f)) (now (a .event)) (a .at) (l .place) (w .result) (b .result) (b .ensures .0) (w .ensures) (c .before .before .if2 .left)
-          (reached (now (a .f)) (a .at) (l .place) (l .inv .1) (now (a .event))) (sym (c .before .fails .ensures) ∙ c .if3 .taken),
+      silent-here (now (a .f)) (together (now (a .there)) (now (a .event))) (a .at) (l .place) (w .result) (b .result) (b .ensures .0) (w .ensures) (c .before .before .if2 .left)
+          (reached (now (a .f)) (a .at) (l .place) (l .inv .1) (together (now (a .there)) (now (a .event)))) (sym (c .before .fails .ensures) ∙ c .if3 .taken),
       l .inv .1,
     )
 
@@ -64,7 +65,7 @@ add-place-2 c =
       most,
       c .before .before .before .before .before .before .loop-test .taken,
       c .before .before .before .before .before .before .before .before
-          .before .before .before .good,
+          .before .before .before .before .good,
     )
 
 loop-less : tie.Need-loop-less Inv-loop μ-loop
@@ -75,7 +76,7 @@ loop-less c =
 
 loop-again : tie.Need-loop-again Inv-loop μ-loop
 loop-again c =
-    let a = c .before .before .before .before .before .before .before .before .before .before .before .args in
+    let a = c .before .before .before .before .before .before .before .before .before .before .before .before .args in
     let l = c .before .before .before .before .before .before .before .loop in
     let w = c .before .before .before .width in
     let b = c .before .before .before .before .wide in (

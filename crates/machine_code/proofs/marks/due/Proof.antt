@@ -1,5 +1,6 @@
 -- `marks::due` meets its contract: a TEST past due makes every walk past due.
 use denote.Ref.{now}
+use Rattle.event_log.specs.Event.{together}
 use mathlib.Core.Path.{_∙_, sym}
 use mathlib.Core.Bool.{false≢true}
 use Prim.Native.Nat.{ℕ, _+_, _-_, _≤_}
@@ -12,10 +13,10 @@ use Rattle.machine_code.proofs.marks.due.Statement.{statement}
 use Rattle.machine_code.proofs.marks.due.Tie as tie
 
 abbrev Inv-loop : tie.InvT-loop
-Inv-loop f from rises latest place₀ place = (place ≤ length f + 1) × ((at : ℕ) → Reaches f at from → Reaches f at place)
+Inv-loop f from rises latest there place₀ place = (place ≤ length f + 1) × ((at : ℕ) → Reaches f at from → Reaches f at place)
 
 abbrev μ-loop : tie.MeasureT-loop
-μ-loop f from rises latest place₀ place = length f - place
+μ-loop f from rises latest there place₀ place = length f - place
 
 returns : tie.Need-returns Inv-loop μ-loop
 returns c = λ e. absurd (false≢true e)
@@ -24,7 +25,7 @@ loop-holds : tie.Need-loop-holds Inv-loop μ-loop
 loop-holds c = (omega (arith, c .if1 .left), λ at r. r)
 
 add-loop : tie.Need-add-loop Inv-loop μ-loop
-add-loop c = omega (arith, c .loop .inv .0, c .before .before .before .before .before .good)
+add-loop c = omega (arith, c .loop .inv .0, c .before .before .before .before .before .before .good)
 
 shared-slice-read-wide : tie.Need-shared-slice-read-wide Inv-loop μ-loop
 shared-slice-read-wide c = omega (arith, c .before .loop-test .taken)
@@ -43,13 +44,13 @@ misses-requires c κs = c .before .before .before .before .loop-test .taken
 
 returns-3 : tie.Need-returns-3 Inv-loop μ-loop
 returns-3 c =
-    let a = c .before .before .before .before .before .before .before .before .before .before .before .before .args in
+    let a = c .before .before .before .before .before .before .before .before .before .before .before .before .before .args in
     let l = c .before .before .before .before .before .before .before .loop in
     let w = c .before .before .before .width in
     let b = c .before .before .before .before .wide in
     λ e at h.
-    late-here (now (a .f)) (now (a .latest)) at (l .place) (w .result) (b .result) (b .ensures .0) (w .ensures) (c .before .before .if2 .left)
-    (reached (now (a .f)) at (l .place) (l .inv .1 at h) (now (a .latest))) (now (a .rises)) (sym (c .before .misses .ensures) ∙ c .if3 .taken)
+    late-here (now (a .f)) (together (now (a .there)) (now (a .latest))) at (l .place) (w .result) (b .result) (b .ensures .0) (w .ensures) (c .before .before .if2 .left)
+    (reached (now (a .f)) at (l .place) (l .inv .1 at h) (together (now (a .there)) (now (a .latest)))) (now (a .rises)) (sym (c .before .misses .ensures) ∙ c .if3 .taken)
 
 add-place : tie.Need-add-place Inv-loop μ-loop
 add-place c =
@@ -60,7 +61,7 @@ add-place c =
       most,
       c .before .before .before .before .before .before .loop-test .taken,
       c .before .before .before .before .before .before .before .before
-          .before .before .before .before .good,
+          .before .before .before .before .before .good,
     )
 
 loop-less : tie.Need-loop-less Inv-loop μ-loop
@@ -71,7 +72,7 @@ loop-less c =
 
 loop-again : tie.Need-loop-again Inv-loop μ-loop
 loop-again c =
-    let a = c .before .before .before .before .before .before .before .before .before .before .before .before .args in
+    let a = c .before .before .before .before .before .before .before .before .before .before .before .before .before .args in
     let l = c .before .before .before .before .before .before .before .loop in
     let w = c .before .before .before .width in
     let b = c .before .before .before .before .wide in (

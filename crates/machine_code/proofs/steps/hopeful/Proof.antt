@@ -3,6 +3,7 @@ use Rattle.machine_code.proofs.StepsByNumber.{alive-none, alive-here, e
 use Rattle.machine_code.specs.inner.Bytes.{expiresAt, aliveBelow}
 use borrow.Author.Tests.{not-true, not-false}
 use denote.Ref.{now}
+use Rattle.event_log.specs.Arrays.{inLatest}
 use mathlib.Core.Path.{_≡_, refl, _∙_, sym, ap}
 use mathlib.Core.Bool.{false}
 use native.Mathlib.Omega.{arith}
@@ -12,7 +13,7 @@ use Rattle.machine_code.proofs.steps.hopeful.Statement.{statement}
 use Rattle.machine_code.proofs.steps.hopeful.Tie as tie
 
 abbrev Inv-loop : tie.InvT-loop
-Inv-loop f table c fresh rises latest next₀ next = (next ≤ 8) × (aliveBelow (expiresAt f table c fresh rises (latest .values)) next ≡ false)
+Inv-loop f table c fresh rises latest next₀ next = (next ≤ 8) × (aliveBelow (expiresAt f table c fresh rises (inLatest latest)) next ≡ false)
 
 abbrev μ-loop : tie.MeasureT-loop
 μ-loop f table c fresh rises latest next₀ next = 8 - next
@@ -44,10 +45,10 @@ loop-again c =
     let i = c4 .loop in
     let at = c2 .step-offset in
     let out =
-    expires-absent (now (a .f)) (now (a .table)) (a .c) (a .fresh) (a .rises) (a .latest .values) (i .next) (at .result) (at .ensures)
+    expires-absent (now (a .f)) (now (a .table)) (a .c) (a .fresh) (a .rises) (inLatest (a .latest)) (i .next) (at .result) (at .ensures)
     (sym (c1 .is-step .ensures) ∙ not-true _ (c .if1 .taken)) in (
       omega (arith, c3 .loop-test .taken),
-      alive-none (expiresAt (now (a .f)) (now (a .table)) (a .c) (a .fresh) (a .rises) (a .latest .values)) (i .next) out (i .inv .1),
+      alive-none (expiresAt (now (a .f)) (now (a .table)) (a .c) (a .fresh) (a .rises) (inLatest (a .latest))) (i .next) out (i .inv .1),
     )
 
 expired-requires : tie.Need-expired-requires Inv-loop μ-loop
@@ -66,9 +67,9 @@ returns c =
     let i = c6 .loop in
     let at = c4 .step-offset in
     let there =
-    expires-there (now (a .f)) (now (a .table)) (a .c) (a .fresh) (a .rises) (a .latest .values) (i .next) (at .result) (at .ensures)
+    expires-there (now (a .f)) (now (a .table)) (a .c) (a .fresh) (a .rises) (inLatest (a .latest)) (i .next) (at .result) (at .ensures)
     (sym (c3 .is-step .ensures) ∙ not-false _ (c2 .if1 .left)) in
-    alive-here (expiresAt (now (a .f)) (now (a .table)) (a .c) (a .fresh) (a .rises) (a .latest .values)) (i .next) (omega (arith, c5 .loop-test .taken))
+    alive-here (expiresAt (now (a .f)) (now (a .table)) (a .c) (a .fresh) (a .rises) (inLatest (a .latest))) (i .next) (omega (arith, c5 .loop-test .taken))
     (there ∙ sym (c1 .expired .ensures) ∙ not-true _ (c .if2 .taken))
 
 loop-less-2 : tie.Need-loop-less-2 Inv-loop μ-loop
@@ -87,10 +88,10 @@ loop-again-2 c =
     let i = c6 .loop in
     let at = c4 .step-offset in
     let there =
-    expires-there (now (a .f)) (now (a .table)) (a .c) (a .fresh) (a .rises) (a .latest .values) (i .next) (at .result) (at .ensures)
+    expires-there (now (a .f)) (now (a .table)) (a .c) (a .fresh) (a .rises) (inLatest (a .latest)) (i .next) (at .result) (at .ensures)
     (sym (c3 .is-step .ensures) ∙ not-false _ (c2 .if1 .left)) in (
       omega (arith, c5 .loop-test .taken),
-      alive-none (expiresAt (now (a .f)) (now (a .table)) (a .c) (a .fresh) (a .rises) (a .latest .values)) (i .next)
+      alive-none (expiresAt (now (a .f)) (now (a .table)) (a .c) (a .fresh) (a .rises) (inLatest (a .latest))) (i .next)
           (there ∙ sym (c1 .expired .ensures) ∙ not-false _ (c .if2 .left)) (i .inv .1),
     )
 
@@ -101,7 +102,7 @@ returns-2 c =
     let a = c4 .args in
     let i = c1 .loop in
     let e : i .next ≡ 8 = omega (arith, c .loop-test .left) in
-    sym (i .inv .1) ∙ ap (aliveBelow (expiresAt (now (a .f)) (now (a .table)) (a .c) (a .fresh) (a .rises) (a .latest .values))) e
+    sym (i .inv .1) ∙ ap (aliveBelow (expiresAt (now (a .f)) (now (a .table)) (a .c) (a .fresh) (a .rises) (inLatest (a .latest)))) e
 
 pub hopeful-spec : {M : Type 1} → statement M
 hopeful-spec =

@@ -16,15 +16,15 @@ returns : tie.Need-returns
 returns c =
     let c6 = c .before .before .before .before .before .before in
     let a = c6 .args in
-    λ g fm m s t q p e w.
+    λ g fm m s t q p e w values same.
     none-gathered g fm (now (a .f)) (now (a .table)) (a .rules) m s t w
-    (λ v h. ap (λ (x : List ℕ). getD x (4 + v) 0) q ∙ c .before .is-empty .ensures (c .if1 .taken) v h) (a .values)
+    (λ v h. ap (λ (x : List ℕ). getD x (4 + v) 0) q ∙ c .before .is-empty .ensures (c .if1 .taken) v h) values
 
 fresh-from-requires : tie.Need-fresh-from-requires
 fresh-from-requires c κs = search needs
 
 returns-2 : tie.Need-returns-2
-returns-2 c = λ g fm m s t q p e w. c .fresh-from .ensures g fm m s t p e w
+returns-2 c = λ g fm m s t q p e w values same. c .fresh-from .ensures g fm m s t p e w values same
 
 pub fresh-at-spec : {M : Type 1} → statement M
 fresh-at-spec = tie.close (tie.spec is-empty-requires returns fresh-from-requires returns-2)

@@ -1,5 +1,4 @@
 -- `gathered::fresh_from` meets its contract: what is read back tells.
-use mathlib.Core.Path.{refl}
 use Rattle.machine.specs.inner.Along.{gathered}
 use Rattle.slots.specs.inner.Threads.{trailOf}
 use Rattle.lists.proofs.Holding.{fresh-is}
@@ -18,9 +17,8 @@ returns c =
     let c6 = c .before .before .before .before .before .before in
     let a = c6 .args in
     let p = c .before .lists-at in
-    λ g fm m s t q e w.
-    fresh-is (gathered g fm (trailOf t)) (p .result) (a .values) (a .values) (c .fresh-of .result) (p .ensures g fm m s t q e w) (λ f h. refl)
-    (c .fresh-of .ensures)
+    λ g fm m s t q e w values same.
+    fresh-is (gathered g fm (trailOf t)) (p .result) (a .values) values (c .fresh-of .result) (p .ensures g fm m s t q e w) same (c .fresh-of .ensures)
 
 pub fresh-from-spec : {M : Type 1} → statement M
 fresh-from-spec = tie.close (tie.spec lists-at-requires fresh-of-requires returns)

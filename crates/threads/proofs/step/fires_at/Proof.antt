@@ -1,4 +1,5 @@
 -- `threads::fires_at` meets its contract: where the scene stands, the step at the table's offset is the machine's.
+use Rattle.event_log.specs.Arrays.{inEvent}
 use Rattle.threads.proofs.Tables.{fires-none, fires-some}
 use Rattle.threads.specs.declared.Move.{Move}
 use Rattle.threads.specs.inner.Calls.{FiredBy}
@@ -6,6 +7,8 @@ use Rattle.machine_code.specs.inner.Bytes.{fired}
 use Rattle.machine_code.specs.declared.Fired.{Fired}
 use Rattle.machine.specs.Configuration.{Config}
 use denote.Ref.{now}
+use Rattle.formula.specs.Lookup.{stepTable}
+use Rattle.threads.proofs.Charts.{event-values}
 use mathlib.Core.Option.{Option}
 use mathlib.Core.Bool.{false}
 use mathlib.Core.Path.{refl, ap, sym, subst, _∙_}
@@ -40,10 +43,10 @@ returns-2 c =
     let x = c .before .fire in
     let n = c .before .before .fresh-at in
     let y = c8 .step-offset in
-    let event = a .moment .event .values in
+    let event = inEvent (a .moment .event) in
     let r : Fired → Move = λ z. record { fires = z .fires; thread = record { config = z .config; steps = a .t .steps; trail = a .t .trail } } in
     λ g fm s h b.
-    fires-some g fm (now (a .f)) (now (a .table)) (a .rules) (a .moment) s (a .t) h (a .k) b (n .result) (n .ensures g fm (a .moment) s (a .t) refl refl refl h)
+    fires-some g fm (now (a .f)) (now (a .table)) (a .rules) (a .moment) s (a .t) h (a .k) b (n .result) (n .ensures g fm (a .moment) s (a .t) refl refl refl h (inEvent (a .moment .event)) (event-values g fm (now (a .f)) (stepTable fm) (a .rules) (s .setting) (a .moment) (s .loads)))
     (λ z. c7 .if1 .left (y .ensures ∙ z)) (r (x .result))
     (λ at q. ap r (x .ensures ∙ ap (λ i. fired (now (a .f)) i d (n .result) event) (y .ensures ∙ sym q)))
 

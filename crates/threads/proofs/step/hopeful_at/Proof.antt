@@ -1,9 +1,12 @@
 -- `threads::hopeful_at` meets its contract: where the scene stands, the code's answer is the machine's.
+use Rattle.event_log.specs.Arrays.{inLatest}
 use Rattle.machine_code.specs.inner.Bytes.{expiresAt, aliveBelow}
 use Rattle.base.proofs.Lists.{rest-drop}
 use native.Mathlib.Omega.{arith}
 use mathlib.Core.Path.{refl, ap, _∙_}
 use denote.Ref.{now}
+use Rattle.formula.specs.Lookup.{stepTable}
+use Rattle.threads.proofs.Charts.{latest-values}
 use Rattle.threads.proofs.Tables.{hopeful-here}
 use borrow.Author.Needs.{needs}
 use Rattle.threads.proofs.step.hopeful_at.Statement.{statement}
@@ -36,8 +39,8 @@ returns-2 c =
     let n = c .before .before .fresh-at in
     λ g fm s h.
     c .hopeful .ensures
-    ∙ ap (λ x. aliveBelow (expiresAt f x (a .t .config) (n .result) (a .rules .rises) (a .moment .latest .values)) 8) (rest-drop steps 128)
-    ∙ hopeful-here g fm f steps (a .rules) (a .moment) s (a .t) h (n .result) (n .ensures g fm (a .moment) s (a .t) refl refl refl h)
+    ∙ ap (λ x. aliveBelow (expiresAt f x (a .t .config) (n .result) (a .rules .rises) (inLatest (a .moment .latest))) 8) (rest-drop steps 128)
+    ∙ hopeful-here g fm f steps (a .rules) (a .moment) s (a .t) h (n .result) (n .ensures g fm (a .moment) s (a .t) refl refl refl h (inLatest (a .moment .latest)) (latest-values g fm f (stepTable fm) (a .rules) (s .setting) (a .moment) (s .loads)))
 
 pub hopeful-at-spec : {M : Type 1} → statement M
 hopeful-at-spec =

@@ -6,6 +6,7 @@ use native.Mathlib.Omega.{arith}
 use Prim.Native.Nat.{_+_}
 use mathlib.Core.Path.{_≡_, sym, subst, _∙_}
 use denote.Ref.{now}
+use Rattle.event_log.specs.Event.{together}
 use lib.ListN.{getD, length-set, set}
 use Rattle.threads.proofs.Marking.{barred-more, due-more}
 use borrow.Author.Needs.{needs}
@@ -35,7 +36,7 @@ mul-unless c = search needs
 
 slice-read-unless : tie.Need-slice-read-unless
 slice-read-unless c =
-    let c11 = c .before .before .before .before .before .before .before .before .before .before .before in
+    let c11 = c .before .before .before .before .before .before .before .before .before .before .before .before .before in
     omega (arith, length-set (now (c11 .args .table)) (c11 .args .i) 0, c11 .pre)
 
 unless-requires : tie.Need-unless-requires
@@ -49,7 +50,7 @@ mul-table-2 c = search needs
 
 slice-write-table-2 : tie.Need-slice-write-table-2
 slice-write-table-2 c =
-    let c12 = c .before .before .before .before .before .before .before .before .before .before .before .before in
+    let c12 = c .before .before .before .before .before .before .before .before .before .before .before .before .before .before in
     omega (arith, length-set (now (c12 .args .table)) (c12 .args .i) 0, c12 .pre)
 
 same-length : tie.Need-same-length
@@ -60,7 +61,7 @@ returns c =
     let c3 = c .before .before .before in
     let c4 = c3 .before in
     let c5 = c4 .before in
-    let c12 = c5 .before .before .before .before .before .before .before in
+    let c12 = c5 .before .before .before .before .before .before .before .before .before in
     let a = c12 .args in
     let f = now (a .f) in
     let steps = now (a .steps) in
@@ -75,11 +76,11 @@ returns c =
       λ m p q e.
           let one = barred-more f steps rises m t (a .i) (c12 .pre .1) e true
           (λ b n d. subst (λ v. (fired f (getD steps (a .i) 0) d n v) .fires ≡ false) (sym p)
-          (subst (λ i. (fired f i d n (now (a .event))) .fires ≡ false) at (told .0 n d))) in
+          (subst (λ i. (fired f i d n (together (now (a .arrived)) (now (a .event)))) .fires ≡ false) at (told .0 n d))) in
           subst (λ z. EventTable f steps rises m (set u (128 + a .i) z)) (sym (y .ensures))
           (due-more f steps rises m u (a .i) (c12 .pre .1) one (late .result)
           (λ b n d. subst (λ v. lapsed f (getD steps (a .i) 0) d n rises v ≡ true) (sym q)
-          (subst (λ i. lapsed f i d n rises (now (a .latest)) ≡ true) at (late .ensures b _ (told .1) n d)))),
+          (subst (λ i. lapsed f i d n rises (together (now (a .known)) (now (a .latest))) ≡ true) at (late .ensures b _ (told .1) n d)))),
     )
 
 returns-2 : tie.Need-returns-2

@@ -1,26 +1,23 @@
--- `log_cases::main` is safe and ends: the loops count, and the log keeps its 23 bytes.
+-- `log_cases::show_lacking` is safe and ends: the loops count, and the log keeps its 34 bytes.
 use Prim.Native.Nat.{_≤_, _-_}
 use mathlib.Core.Path.{_≡_}
 use lib.ListN.{length, length-take}
 use native.Mathlib.Omega.{arith}
 use borrow.Author.Needs.{needs}
-use Rattle.log_cases.proofs.main.Statement.{statement}
-use Rattle.log_cases.proofs.main.Tie as tie
+use Rattle.log_cases.proofs.show_lacking.Statement.{statement}
+use Rattle.log_cases.proofs.show_lacking.Tie as tie
 
 abbrev Inv-loop : tie.InvT-loop
-Inv-loop l n₀ n = (n ≤ 24) × (length l ≡ 23)
+Inv-loop l n₀ n = (n ≤ 35) × (length l ≡ 34)
 
 abbrev μ-loop : tie.MeasureT-loop
-μ-loop l n₀ n = 24 - n
+μ-loop l n₀ n = 35 - n
 
 abbrev Inv-loop2 : tie.InvT-loop2
-Inv-loop2 l at₀ at = (at ≤ 23) × (length l ≡ 23)
+Inv-loop2 l at₀ at = (at ≤ 34) × (length l ≡ 34)
 
 abbrev μ-loop2 : tie.MeasureT-loop2
-μ-loop2 l at₀ at = 23 - at
-
-bench-requires : tie.Need-bench-requires Inv-loop μ-loop Inv-loop2 μ-loop2
-bench-requires c κs = search needs
+μ-loop2 l at₀ at = 34 - at
 
 loop-holds : tie.Need-loop-holds Inv-loop μ-loop Inv-loop2 μ-loop2
 loop-holds c = search needs
@@ -46,20 +43,23 @@ loop-again c = search needs
 loop2-holds : tie.Need-loop2-holds Inv-loop μ-loop Inv-loop2 μ-loop2
 loop2-holds c = search needs
 
-show-set-requires : tie.Need-show-set-requires Inv-loop μ-loop Inv-loop2 μ-loop2
-show-set-requires c κs = search needs
+show-lacking-set-requires : tie.Need-show-lacking-set-requires Inv-loop μ-loop Inv-loop2 μ-loop2
+show-lacking-set-requires c κs = search needs
 
-show-set-requires-2 : tie.Need-show-set-requires-2 Inv-loop μ-loop Inv-loop2 μ-loop2
-show-set-requires-2 c κs = search needs
+show-lacking-set-requires-2 : tie.Need-show-lacking-set-requires-2 Inv-loop μ-loop Inv-loop2 μ-loop2
+show-lacking-set-requires-2 c κs = search needs
 
-show-set-requires-3 : tie.Need-show-set-requires-3 Inv-loop μ-loop Inv-loop2 μ-loop2
-show-set-requires-3 c κs = search needs
+show-lacking-set-requires-3 : tie.Need-show-lacking-set-requires-3 Inv-loop μ-loop Inv-loop2 μ-loop2
+show-lacking-set-requires-3 c κs = search needs
 
-show-set-requires-4 : tie.Need-show-set-requires-4 Inv-loop μ-loop Inv-loop2 μ-loop2
-show-set-requires-4 c κs = search needs
+show-lacking-set-requires-4 : tie.Need-show-lacking-set-requires-4 Inv-loop μ-loop Inv-loop2 μ-loop2
+show-lacking-set-requires-4 c κs = search needs
 
-show-set-requires-5 : tie.Need-show-set-requires-5 Inv-loop μ-loop Inv-loop2 μ-loop2
-show-set-requires-5 c κs = search needs
+show-lacking-set-requires-5 : tie.Need-show-lacking-set-requires-5 Inv-loop μ-loop Inv-loop2 μ-loop2
+show-lacking-set-requires-5 c κs = search needs
+
+show-lacking-set-requires-6 : tie.Need-show-lacking-set-requires-6 Inv-loop μ-loop Inv-loop2 μ-loop2
+show-lacking-set-requires-6 c κs = search needs
 
 add-at : tie.Need-add-at Inv-loop μ-loop Inv-loop2 μ-loop2
 add-at c = search needs
@@ -73,15 +73,14 @@ loop2-again c = search needs
 returns : tie.Need-returns Inv-loop μ-loop Inv-loop2 μ-loop2
 returns c = search needs
 
-pub main-spec : {M : Type 1} → statement M
-main-spec =
+pub show-lacking-spec : {M : Type 1} → statement M
+show-lacking-spec =
     tie.close
     (tie.spec
     Inv-loop
     μ-loop
     Inv-loop2
     μ-loop2
-    bench-requires
     loop-holds
     array-share-prefix-l
     slice-aggregate-show
@@ -90,11 +89,12 @@ main-spec =
     loop-less
     loop-again
     loop2-holds
-    show-set-requires
-    show-set-requires-2
-    show-set-requires-3
-    show-set-requires-4
-    show-set-requires-5
+    show-lacking-set-requires
+    show-lacking-set-requires-2
+    show-lacking-set-requires-3
+    show-lacking-set-requires-4
+    show-lacking-set-requires-5
+    show-lacking-set-requires-6
     add-at
     loop2-less
     loop2-again

@@ -1,0 +1,161 @@
+-- On a log without 03 a step fires, and is hopeless, in the words that the paper had before there were absent fields.
+use Prim.Native.Nat.{ℕ, _<_}
+use mathlib.Core.Path.{_≡_, refl, ap}
+use mathlib.Core.Bool.{Bool, true, false, not, _&&_, _||_, cond}
+use mathlib.Core.List.{List, [], _∷_, map}
+use mathlib.Core.Option.{Option, none, some}
+use lib.ListN.{length, getD, List·getD-map}
+use lib.Dec.{eqb}
+use Rattle.base.specs.Lists.{All}
+use Rattle.base.proofs.Lists.{All-at}
+use Rattle.base.proofs.Tests.{and-true, or-right}
+use Rattle.event_log.specs.Log.{Kind, field, Event, Log, eventAt}
+use Rattle.event_log.proofs.AsBefore.{whole, present-some, field-some, latest-plain}
+use Rattle.formula.specs.Formula.{Formula, Step, Clause, TEST, TESTV, BIND, GATHER}
+use Rattle.formula.specs.Formula.{Leaf, CONST, VAR, COUNT, SUM, LENGTH, DIFFERENT, Expr, LEAF, ADD, SUB, LESS, ATMOST, EQUAL, NOT, AND, OR, IF}
+use Rattle.formula.specs.Encode.{CLAUSE, stepCommands}
+use Rattle.formula.specs.Correct.{Correct, Exists}
+use Rattle.formula.specs.Lookup.{stepAt}
+use Rattle.formula.proofs.Steps.{right-step}
+use Rattle.machine.specs.Configuration.{Config}
+use Rattle.machine.specs.Guard.{guardHolds}
+use Rattle.machine.specs.Firing.{holds, valueOf, isHeld, leave, allPass, fires, fire}
+use Rattle.machine.specs.Expiry.{rises, firstBind, missed, anyPastDue, guardFalls, arrived, gathersKnown, leafKnown, known, guardKnown, expired}
+use Rattle.machine.specs.Machine.{fireAt, expiredAt}
+use Rattle.machine.proofs.Walk.{clauses-exist}
+
+-- the words of before, with a value for each field
+abbrev pub passesBefore : Config → Config → List ℕ → Clause → Bool
+passesBefore c d e (TEST f o x) = holds o (getD e f 0) x
+passesBefore c d e (TESTV f o v) = holds o (getD e f 0) (valueOf c v)
+passesBefore c d e (BIND f v) = eqb (getD e f 0) (valueOf d v)
+passesBefore c d e (GATHER f v) = true
+
+abbrev pub allPassBefore : Config → Config → List ℕ → List Clause → Bool
+allPassBefore c d e [] = true
+allPassBefore c d e (k ∷ ks) = passesBefore c d e k && allPassBefore c d e ks
+
+abbrev pub pastDueBefore : List Kind → Config → List ℕ → Clause → Bool
+pastDueBefore fields c x (TEST f o y) = rises fields f && missed o (getD x f 0) y
+pastDueBefore fields c x (TESTV f o v) = rises fields f && missed o (getD x f 0) (valueOf c v)
+pastDueBefore fields c x (BIND f v) = false
+pastDueBefore fields c x (GATHER f v) = false
+
+abbrev pub anyPastDueBefore : List Kind → Config → List ℕ → List Clause → Bool
+anyPastDueBefore fields c x [] = false
+anyPastDueBefore fields c x (k ∷ ks) = pastDueBefore fields c x k || anyPastDueBefore fields c x ks
+
+-- what a step leaves, fires by and is hopeless by, on an event with these values
+abbrev pub leaveBefore : Config → Step → List ℕ → Config
+leaveBefore c s e = leave c s (map some e)
+
+abbrev pub fireBefore : Config → Step → List ℕ → Option Config
+fireBefore c s e =
+    cond (allPassBefore c (leaveBefore c s e) e (s .clauses) && guardHolds (leaveBefore c s e) (s .guard)) (some (leaveBefore c s e)) none
+
+abbrev pub expiredBefore : List Kind → Config → Step → List ℕ → Bool
+expiredBefore fields c s x =
+    anyPastDueBefore fields c x (s .clauses) || (guardFalls fields c (s .clauses) (s .guard) && not (guardHolds (leaveBefore c s x) (s .guard)))
+
+-- an event with every field that the clauses read
+module _ (e : List ℕ) where
+  abbrev Reads : List Clause → Type 0
+  Reads ks = All (λ (k : Clause). Exists (length e) (CLAUSE k)) ks
+
+  passes-before : (c d : Config) (ks : List Clause) → Reads ks → allPass c d (map some e) ks ≡ allPassBefore c d e ks
+  passes-before c d [] r = refl
+  passes-before c d (TEST f o x ∷ ks) r = rw (present-some e f (r .0 .0), field-some e f, passes-before c d ks (r .1))
+  passes-before c d (TESTV f o v ∷ ks) r = rw (present-some e f (r .0 .0), field-some e f, passes-before c d ks (r .1))
+  passes-before c d (BIND f v ∷ ks) r = rw (present-some e f (r .0 .0), field-some e f, passes-before c d ks (r .1))
+  passes-before c d (GATHER f v ∷ ks) r = rw (present-some e f (r .0 .0), passes-before c d ks (r .1))
+
+  due-before : (fields : List Kind) (c : Config) (ks : List Clause) → Reads ks → anyPastDue fields c (map some e) ks ≡ anyPastDueBefore fields c e ks
+  due-before fields c [] r = refl
+  due-before fields c (TEST f o x ∷ ks) r = rw (present-some e f (r .0 .0), field-some e f, due-before fields c ks (r .1))
+  due-before fields c (TESTV f o v ∷ ks) r = rw (present-some e f (r .0 .0), field-some e f, due-before fields c ks (r .1))
+  due-before fields c (BIND f v ∷ ks) r = due-before fields c ks (r .1)
+  due-before fields c (GATHER f v ∷ ks) r = due-before fields c ks (r .1)
+
+  -- every field named has a value
+  bound-there : (ks : List Clause) (v : ℕ) → Reads ks → arrived (map some e) (firstBind ks v) ≡ true
+  bound-there [] v r = refl
+  bound-there (TEST f o x ∷ ks) v r = bound-there ks v (r .1)
+  bound-there (TESTV f o u ∷ ks) v r = bound-there ks v (r .1)
+  bound-there (GATHER f u ∷ ks) v r = bound-there ks v (r .1)
+  bound-there (BIND f u ∷ ks) v r = go (eqb u v) (bound-there ks v (r .1))
+    where
+      go : (b : Bool) → arrived (map some e) (firstBind ks v) ≡ true → arrived (map some e) (cond b (some f) (firstBind ks v)) ≡ true
+      go true h = present-some e f (r .0 .0)
+      go false h = h
+
+  gathered-there : (ks : List Clause) (v : ℕ) → Reads ks → gathersKnown (map some e) ks v ≡ true
+  gathered-there [] v r = refl
+  gathered-there (TEST f o x ∷ ks) v r = gathered-there ks v (r .1)
+  gathered-there (TESTV f o u ∷ ks) v r = gathered-there ks v (r .1)
+  gathered-there (BIND f u ∷ ks) v r = gathered-there ks v (r .1)
+  gathered-there (GATHER f u ∷ ks) v r = rw (present-some e f (r .0 .0), gathered-there ks v (r .1)) (go (eqb u v))
+    where
+      go : (b : Bool) → (cond b true true && true) ≡ true
+      go true = refl
+      go false = refl
+
+  module _ (c : Config) (ks : List Clause) (r : Reads ks) where
+    leaf-known : (l : Leaf) → leafKnown c ks (map some e) l ≡ true
+    leaf-known (CONST y) = refl
+    leaf-known (VAR v) = or-right (isHeld c v) (arrived (map some e) (firstBind ks v)) (bound-there ks v r)
+    leaf-known (COUNT s) = refl
+    leaf-known (SUM v) = gathered-there ks v r
+    leaf-known (LENGTH v) = refl
+    leaf-known (DIFFERENT v) = refl
+
+    all-known : (x : Expr) → known c ks (map some e) x ≡ true
+    unfolding known
+    all-known (LEAF l) = leaf-known l
+    all-known (ADD a b) = and-true _ _ (all-known a) (all-known b)
+    all-known (SUB a b) = and-true _ _ (all-known a) (all-known b)
+    all-known (LESS a b) = and-true _ _ (all-known a) (all-known b)
+    all-known (ATMOST a b) = and-true _ _ (all-known a) (all-known b)
+    all-known (EQUAL a b) = and-true _ _ (all-known a) (all-known b)
+    all-known (NOT a) = all-known a
+    all-known (AND a b) = and-true _ _ (all-known a) (all-known b)
+    all-known (OR a b) = and-true _ _ (all-known a) (all-known b)
+    all-known (IF a b d) = and-true _ _ (all-known a) (and-true _ _ (all-known b) (all-known d))
+
+    guard-known : (g : Option Expr) → guardKnown c ks (map some e) g ≡ true
+    guard-known none = refl
+    guard-known (some g) = all-known g
+
+  fire-before : (c : Config) (s : Step) → Reads (s .clauses) → fire c s (map some e) ≡ fireBefore c s e
+  unfolding fire fires
+  fire-before c s r = rw (passes-before c (leave c s (map some e)) (s .clauses) r)
+
+  expired-before : (fields : List Kind) (c : Config) (s : Step) → Reads (s .clauses) → expired fields c s (map some e) ≡ expiredBefore fields c s e
+  unfolding expired
+  expired-before fields c s r = rw (due-before fields c (s .clauses) r, guard-known c (s .clauses) r (s .guard))
+
+-- A log of 02 alone, and a formula that is correct against it: every step of the formula, on every event, as before; judged by that event's values.
+module _ (ks : List Kind) (vs : List (List ℕ)) (fm : Formula) (one : All (λ (v : List ℕ). length v ≡ length ks) vs) (right : Correct (length ks) fm)
+    (n : ℕ) (h : n < length vs) where
+  abbrev log : Log
+  log = record { fields = ks; events = map whole vs }
+
+  abbrev values : List ℕ
+  values = getD vs n []
+
+  event-is : (eventAt log n) .values ≡ map some values
+  unfolding eventAt
+  event-is = ap (λ (e : Event). e .values) (List·getD-map whole vs n [])
+
+  reads : (s k : ℕ) (t : Step) → stepAt fm s k ≡ some t → All (λ (c : Clause). Exists (length values) (CLAUSE c)) (t .clauses)
+  unfolding stepCommands
+  reads s k t e =
+      rw (All-at (λ (v : List ℕ). length v ≡ length ks) vs n [] one h)
+      (clauses-exist (length ks) (t .clauses) (t .guard) (right-step (length ks) fm s k t right e .exist .1))
+
+  pub fires-before : (c : Config) (k : ℕ) (t : Step) → stepAt fm (c .state) k ≡ some t → fireAt log fm c n k ≡ fireBefore c t values
+  unfolding fireAt
+  fires-before c k t e = rw (e, event-is) (fire-before values c t (reads (c .state) k t e))
+
+  pub expires-before : (c : Config) (k : ℕ) (t : Step) → stepAt fm (c .state) k ≡ some t → expiredAt log fm c k n ≡ expiredBefore ks c t values
+  unfolding expiredAt
+  expires-before c k t e = rw (e, latest-plain ks vs one n h) (expired-before values ks c t (reads (c .state) k t e))
