@@ -1,6 +1,7 @@
 //! How much was compared, and what the compared cases reached.
 
 use crate::product::{Refused, ACCEPT, REJECT};
+use reference::reach::{NAMES, REACHED};
 use std::fmt;
 
 #[derive(Clone, Debug, Default, PartialEq, Eq)]
@@ -19,12 +20,33 @@ pub struct Counts {
     pub rows: [usize; 4],
     /// Refusals by their number.
     pub refusals: [usize; 14],
+    /// Searches in which absent fields count, by the way that they do.
+    pub absent: [usize; REACHED],
+    /// Refusals of the log at an event that may lack fields, by their number.
+    pub lacking: [usize; 14],
 }
+
+/// The numbers that such an event may have.
+const OF_LACKING: [usize; 5] = [1, 2, 3, 4, 6];
 
 impl Counts {
     pub fn refusal(&mut self, refused: &Refused) {
         if refused.number != 0 {
             self.refusals[refused.number] += 1;
+        }
+    }
+
+    /// The refusal of a log, whose bytes tell the command that it stands at.
+    pub fn log_refusal(&mut self, refused: &Refused, log: &[u8]) {
+        self.refusal(refused);
+        if refused.number != 0 && log.get(refused.place) == Some(&0x03) {
+            self.lacking[refused.number] += 1;
+        }
+    }
+
+    pub fn absent(&mut self, reached: &[bool; REACHED]) {
+        for (times, &reached) in self.absent.iter_mut().zip(reached) {
+            *times += usize::from(reached);
         }
     }
 
@@ -40,10 +62,16 @@ impl Counts {
             ("a rejected row", self.rows[3]),
         ];
         let refusal = (1..self.refusals.len()).find(|&number| self.refusals[number] == 0);
-        let other = reached.iter().find(|(_, times)| *times == 0);
-        match refusal {
-            Some(number) => Some(format!("refusal {number}")),
-            None => other.map(|(what, _)| String::from(*what)),
+        let mut lacking = OF_LACKING.into_iter();
+        let lacking = lacking.find(|&number| self.lacking[number] == 0);
+        let absent = NAMES.into_iter().zip(self.absent);
+        let mut other = reached.into_iter().chain(absent);
+        match (refusal, lacking) {
+            (Some(number), _) => Some(format!("refusal {number}")),
+            (_, Some(number)) => Some(format!("refusal {number} at a 03")),
+            _ => other
+                .find(|(_, times)| *times == 0)
+                .map(|(what, _)| String::from(what)),
         }
     }
 
@@ -63,12 +91,16 @@ impl fmt::Display for Counts {
         let refusals: Vec<String> = (1..self.refusals.len())
             .map(|number| format!("{}:{}", number, self.refusals[number]))
             .collect();
+        let lacking = OF_LACKING.map(|number| format!("{}:{}", number, self.lacking[number]));
+        let [over, kept, beside, older, before, test, guard] = self.absent;
         let [none, alert, subsumed, rejected] = self.rows;
         write!(
             out,
             "{} cases agree: {} logs, {} formulas read; {} searches: {} accept, {} reject, \
              {} none, up to {} steps and width {}; {} analyses: rows {} none, {} alert, \
-             {} subsumed, {} rejected; refusals {}",
+             {} subsumed, {} rejected; refusals {}; absent fields in searches: {} with a run over \
+             them, {} kept from firing, {} fired beside, {} hopeless by an older value, {} by \
+             one before the start, {} tests and {} guards let off; refusals at a 03 {}",
             self.cases,
             self.logs,
             self.formulas,
@@ -83,7 +115,15 @@ impl fmt::Display for Counts {
             alert,
             subsumed,
             rejected,
-            refusals.join(" ")
+            refusals.join(" "),
+            over,
+            kept,
+            beside,
+            older,
+            before,
+            test,
+            guard,
+            lacking.join(" ")
         )
     }
 }

@@ -1,10 +1,16 @@
 //! Stands in for the product's static library: the same functions, made of the
 //! reference. A fault may be switched on, to see that the comparison shows it.
 
+mod absent;
+mod fault;
 mod lists;
+mod logs;
+
+pub use fault::{switch, Fault};
 
 use crate::checks::found_of;
 use crate::product::{Found, LogRead, Refused, ACCEPT, NONE, REJECT};
+use fault::has;
 use reference::analysis;
 use reference::formula;
 use reference::log::Log;
@@ -13,163 +19,6 @@ use reference::refusal::{Refusal, CALL, CROWDED, FOREIGN, OUTSIDE, SHORT, SURPLU
 use reference::refusal::{ABSENT_STATE, DEAD_START, TWICE, UNBOUND, VALUE};
 use reference::runs::threads;
 use reference::search::{self, Answer, SEAT_WORDS};
-use std::sync::atomic::{AtomicUsize, Ordering};
-
-/// What a wrong product would do.
-#[derive(Clone, Copy, Debug, PartialEq, Eq)]
-pub enum Fault {
-    Nothing,
-    LogPlace,
-    LogFile,
-    LogFields,
-    LogEvents,
-    LogCountsOfRefused,
-    FormulaAccepted,
-    FormulaPlace,
-    FormulaNumber,
-    FieldsIgnored,
-    VerdictExchanged,
-    StepCount,
-    LastEvent,
-    UnusedEvent,
-    FirstNumber,
-    UnusedNumber,
-    HeldByte,
-    HeldLost,
-    ValueLost,
-    UnheldValue,
-    WidthZero,
-    WidthOfRefused,
-    VerdictOfRefused,
-    WordsBeforeStart,
-    CrowdedPlace,
-    SeatsUncapped,
-    SeatsRoundedUp,
-    WorkOfRefused,
-    WorkLeftOver,
-    WorkOverrun,
-    RowsOfRefused,
-    RowsBehind,
-    RowsOverrun,
-    RowsBeforeWords,
-    CrowdedRowWritten,
-    CrowdedRowsLost,
-    SubsumedAsAlert,
-    RejectedAsNone,
-    RowLast,
-    RowMask,
-    NoneRowUntouched,
-    FirstRowCopied,
-    ListsIgnored,
-    ListsAsSets,
-    ListsUnordered,
-    ListsByTallies,
-    ListsByEnds,
-    LastListLost,
-    SumWraps,
-    SumBoth,
-    PlainSumRises,
-    SumOfNoneNeither,
-    AnyGatherCounts,
-    DifferentBoth,
-    DifferentRises,
-    DifferentNeither,
-    GuardBeforeGather,
-    ExpiryWithoutGather,
-    TwiceAccepted,
-    TwiceAfterValue,
-    TwiceAsValue,
-    NinthGather,
-    GatherAnywhere,
-    ListAsVariable,
-    AbsentAsValue,
-    AbsentCountAsValue,
-    AbsentLast,
-    AbsentAfterDeadStart,
-}
-
-impl Fault {
-    pub const ALL: [Fault; 67] = [
-        Fault::LogPlace,
-        Fault::LogFile,
-        Fault::LogFields,
-        Fault::LogEvents,
-        Fault::LogCountsOfRefused,
-        Fault::FormulaAccepted,
-        Fault::FormulaPlace,
-        Fault::FormulaNumber,
-        Fault::FieldsIgnored,
-        Fault::VerdictExchanged,
-        Fault::StepCount,
-        Fault::LastEvent,
-        Fault::UnusedEvent,
-        Fault::FirstNumber,
-        Fault::UnusedNumber,
-        Fault::HeldByte,
-        Fault::HeldLost,
-        Fault::ValueLost,
-        Fault::UnheldValue,
-        Fault::WidthZero,
-        Fault::WidthOfRefused,
-        Fault::VerdictOfRefused,
-        Fault::WordsBeforeStart,
-        Fault::CrowdedPlace,
-        Fault::SeatsUncapped,
-        Fault::SeatsRoundedUp,
-        Fault::WorkOfRefused,
-        Fault::WorkLeftOver,
-        Fault::WorkOverrun,
-        Fault::RowsOfRefused,
-        Fault::RowsBehind,
-        Fault::RowsOverrun,
-        Fault::RowsBeforeWords,
-        Fault::CrowdedRowWritten,
-        Fault::CrowdedRowsLost,
-        Fault::SubsumedAsAlert,
-        Fault::RejectedAsNone,
-        Fault::RowLast,
-        Fault::RowMask,
-        Fault::NoneRowUntouched,
-        Fault::FirstRowCopied,
-        Fault::ListsIgnored,
-        Fault::ListsAsSets,
-        Fault::ListsUnordered,
-        Fault::ListsByTallies,
-        Fault::ListsByEnds,
-        Fault::LastListLost,
-        Fault::SumWraps,
-        Fault::SumBoth,
-        Fault::PlainSumRises,
-        Fault::SumOfNoneNeither,
-        Fault::AnyGatherCounts,
-        Fault::DifferentBoth,
-        Fault::DifferentRises,
-        Fault::DifferentNeither,
-        Fault::GuardBeforeGather,
-        Fault::ExpiryWithoutGather,
-        Fault::TwiceAccepted,
-        Fault::TwiceAfterValue,
-        Fault::TwiceAsValue,
-        Fault::NinthGather,
-        Fault::GatherAnywhere,
-        Fault::ListAsVariable,
-        Fault::AbsentAsValue,
-        Fault::AbsentCountAsValue,
-        Fault::AbsentLast,
-        Fault::AbsentAfterDeadStart,
-    ];
-}
-
-static FAULT: AtomicUsize = AtomicUsize::new(0);
-
-/// Switches one fault on and all others off.
-pub fn switch(fault: Fault) {
-    FAULT.store(fault as usize, Ordering::Relaxed);
-}
-
-fn has(fault: Fault) -> bool {
-    FAULT.load(Ordering::Relaxed) == fault as usize
-}
 
 fn refused(refusal: &Refusal) -> Refused {
     Refused {
@@ -189,7 +38,7 @@ unsafe extern "C" fn hikwallu_read_log(log: *const u8, log_len: usize) -> LogRea
     // SAFETY: as the caller promises.
     let log = unsafe { bytes(log, log_len) };
     let mut answer = LogRead::default();
-    match Log::read(log) {
+    match logs::read(log) {
         Ok(log) => {
             answer.fields = log.rising.len() - usize::from(has(Fault::LogFields));
             answer.events = log.events() + usize::from(has(Fault::LogEvents));
@@ -292,9 +141,10 @@ fn counted(words: usize) -> usize {
     }
 }
 
-/// The reference's search, with the stand-in's own lists.
+/// The reference's search, with the stand-in's own log, lists and absent fields.
 fn own(log: &[u8], formula: &[u8], start: usize, words: usize) -> Result<Answer, Refusal> {
-    let (log, formula) = search::read_both(log, formula)?;
+    let log = logs::read(log)?;
+    let formula = formula::read(formula, &log)?;
     if start >= log.events() {
         return Err(Refusal::new(CALL, OUTSIDE, start));
     }

@@ -23,7 +23,8 @@ impl Pair {
 }
 
 /// The bench's log with both its formulas, its events exchanged, its log of
-/// three events, tied and not, and a formula that gathers.
+/// three events, tied and not, a formula that gathers, and two logs whose
+/// events lack fields.
 pub fn examples() -> Vec<Pair> {
     let log = "0101 0100 02000001F400000001 02000001F400000002 00";
     let exchanged = "0101 0100 02000001F400000002 02000001F400000001 00";
@@ -33,6 +34,10 @@ pub fn examples() -> Vec<Pair> {
     let trips = "1000 1101 12010000000002 140000 1000 1102 13000000 12010000000001 1002 00";
     let gathers =
         "1000 1101 170008 17010B 1000 1102 170008 15 29 25 2E0B 2D08 25 20000001F4 2C08 1002 00";
+    let timeless = "0101 0100 02000001F400000001 03020000000000000001 0303000001F900000002 00";
+    let bare = "0101 0100 0301000001F400000000 03000000000000000000 03020000000000000002 00";
+    let soon = "1000 1101 1000 1102 12000200000200 140001 170008 15 \
+                2B 25 2D08 2000000002 25 2101 20000001F4 26 2C08 2000000400 1002 00";
     let pairs = [
         (log, opens),
         (log, trips),
@@ -40,6 +45,8 @@ pub fn examples() -> Vec<Pair> {
         (three, opens),
         (three, tied),
         (log, gathers),
+        (timeless, opens),
+        (bare, soon),
     ];
     let pair = |(log, formula)| Pair {
         log: hex(log),
@@ -89,15 +96,17 @@ fn every_expression() -> Vec<u8> {
     op(IF, &[few, op(AND, &[early, same]), either])
 }
 
-/// A formula that has every command and every operator, with a log.
+/// A formula that has every command and every operator, with a log that has
+/// every command.
 pub fn everything() -> Pair {
-    let events: [&[u32]; 6] = [
-        &[1, 0, 10],
-        &[2, 1, 10],
-        &[2, 2, 11],
-        &[4, 1, 12],
-        &[5, 3, 12],
-        &[9, 2, 40],
+    let events: [&[Option<u32>]; 7] = [
+        &[Some(1), Some(0), Some(10)],
+        &[Some(2), Some(1), Some(10)],
+        &[Some(2), Some(2), None],
+        &[Some(2), Some(2), Some(11)],
+        &[Some(4), Some(1), Some(12)],
+        &[None, Some(3), Some(12)],
+        &[Some(9), Some(2), Some(40)],
     ];
     let formula = file(&[
         join(&[tied(0), tied(2), tied(0)]),
@@ -114,7 +123,7 @@ pub fn everything() -> Pair {
         join(&[state(2), state(3)]),
     ]);
     Pair {
-        log: log(&[1, 0, 1], &events),
+        log: log_lacking(&[1, 0, 1], &events),
         formula,
     }
 }

@@ -1,11 +1,11 @@
 //! Rolled cases whose guards put any command anywhere: numbers under AND, OR,
 //! NOT and the condition of IF, truth values under ADD, SUB and EQUAL; half of
-//! them gather.
+//! them gather, and in a third events lack fields.
 
 use reference::analysis::ROW_WORDS;
 use reference::compose::*;
 use reference::formula::MOST_COMMANDS;
-use reference::random::{Case, Dice};
+use reference::random::{thin, Case, Dice};
 use reference::search::SEAT_WORDS;
 use std::ops::Range;
 
@@ -23,8 +23,12 @@ struct Scope<'a> {
 pub fn case(seed: u64) -> Case {
     let mut dice = Dice::new(seed ^ 0x6A4D_0000_0000);
     let events = dice.between(3, 7);
+    let mut log = log_of(&mut dice, events);
+    if dice.chance(33) {
+        thin(&mut dice, &mut log);
+    }
     Case {
-        log: log_of(&mut dice, events),
+        log,
         formula: formula(&mut dice),
         start: dice.below(events),
         words: SEAT_WORDS * dice.between(1, 12),

@@ -8,6 +8,9 @@ use reference::compose::*;
 pub enum Kind {
     /// About 60 threads wait in ordinary states until every 128th event.
     Ordinary,
+    /// The same, and every event is one that may lack fields: field 6 never
+    /// arrives, field 5 is absent in every fourth event.
+    Lacking,
     /// About 60 threads wait behind guards of 31 commands, for 10 events each.
     Guards,
     /// About 60 threads move on at every event through committed states.
@@ -26,8 +29,9 @@ pub enum Kind {
 }
 
 impl Kind {
-    pub const ALL: [Kind; 8] = [
+    pub const ALL: [Kind; 9] = [
         Kind::Ordinary,
+        Kind::Lacking,
         Kind::Guards,
         Kind::Committed,
         Kind::Overlap,
@@ -40,6 +44,7 @@ impl Kind {
     pub fn name(self) -> &'static str {
         match self {
             Kind::Ordinary => "ordinary",
+            Kind::Lacking => "lacking",
             Kind::Guards => "guards",
             Kind::Committed => "committed",
             Kind::Overlap => "overlap",
@@ -74,7 +79,7 @@ pub fn pair(kind: Kind, events: usize) -> Pair {
         _ => 128,
     };
     let states = match kind {
-        Kind::Ordinary => ordinary(),
+        Kind::Ordinary | Kind::Lacking => ordinary(),
         Kind::Guards => guards(),
         Kind::Committed => committed(),
         Kind::Overlap => overlap(),
@@ -84,19 +89,23 @@ pub fn pair(kind: Kind, events: usize) -> Pair {
         Kind::Gather => gathering(),
     };
     Pair {
-        log: log_of(events as u32, period as u32),
+        log: log_of(events as u32, period as u32, kind == Kind::Lacking),
         formula: file(&states),
     }
 }
 
 /// Time, when threads grow old, one of 60 codes, when the start grows old, a
-/// mark on the last event of each period, and three more.
-fn log_of(events: u32, period: u32) -> Vec<u8> {
+/// mark on the last event of each period, and three more; some may be absent.
+fn log_of(events: u32, period: u32, lack: bool) -> Vec<u8> {
     let mut parts: Vec<Vec<u8>> = [1, 1, 0, 1, 0, 0, 1, 0].map(field).to_vec();
     for n in 0..events {
         let code = n * 7 % 60;
         let mark = u32::from(n % period == period - 1);
-        parts.push(event(&[n, n + 10, code, n + 11, mark, n % 3, n / 3, n * n]));
+        let values = [n, n + 10, code, n + 11, mark, n % 3, n / 3, n * n];
+        let mut kept = values.map(Some);
+        kept[6] = None;
+        kept[5] = kept[5].filter(|_| n % 4 != 1);
+        parts.push(if lack { lacking(&kept) } else { event(&values) });
     }
     file(&parts)
 }

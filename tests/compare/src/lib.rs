@@ -9,6 +9,7 @@ pub mod fake;
 pub mod files;
 pub mod guards;
 pub mod heavy;
+pub mod lacking;
 pub mod lent;
 pub mod page;
 pub mod product;

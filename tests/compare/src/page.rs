@@ -56,7 +56,7 @@ pub fn examples() -> Result<Vec<Example>, String> {
         words[0] == "refused" && words.get(2) == Some(&number.to_string().as_str())
     };
     let shown = |number: usize| examples.iter().any(|example| shows(example, number));
-    match (1..=12).find(|&number| !shown(number)) {
+    match (1..=13).find(|&number| !shown(number)) {
         Some(number) => Err(format!("no example shows refusal {number}")),
         None => Ok(examples),
     }

@@ -4,6 +4,7 @@
 use crate::checks::{Check, Disagreement};
 use crate::files::{self, Pair};
 use crate::guards;
+use crate::lacking;
 use crate::page::{Call, Example};
 use reference::log::MOST_EVENTS;
 use reference::program::text;
@@ -52,6 +53,8 @@ impl Runner {
             files::everything(),
             files::longest(0),
             files::longest(1),
+            lacking::longest(0),
+            lacking::longest(1),
             files::wordy(),
         ];
         for pair in pairs {
@@ -102,7 +105,7 @@ impl Runner {
     fn long(&mut self, pair: &Pair) -> Check {
         let behind = |bytes: &[u8], byte: u8| [bytes, &[byte; 70_000]].concat();
         let (log, formula) = (&pair.log, &pair.formula);
-        for byte in [0, 1, 2, 0x10, 0x16] {
+        for byte in [0, 1, 2, 3, 0x10, 0x16] {
             self.run(Some(behind(log, byte)), Some(formula.clone()))?;
             self.run(Some(log.clone()), Some(behind(formula, byte)))?;
             self.run(Some(vec![byte; 70_000]), Some(formula.clone()))?;

@@ -5,9 +5,12 @@ use crate::checks::{Check, Comparison, Files};
 use crate::files::{self, Pair};
 use crate::guards;
 use crate::heavy::{self, Kind};
+use crate::lacking;
 use reference::analysis::ROW_WORDS;
 use reference::log::Log;
+use reference::machine::Setting;
 use reference::random::{self, Case};
+use reference::reach::reached;
 use reference::search::{read_both, MOST_SEATS, SEAT_WORDS};
 
 /// Numbers of work words around the limits that count.
@@ -27,6 +30,11 @@ const ALL_SEATS: usize = MOST_SEATS * SEAT_WORDS;
 /// Logs up to so many events are analysed with every number of work words.
 const FEW_EVENTS: usize = 16;
 
+/// Searches from so many starts, with up to so many runs, are asked where
+/// absent fields count in them.
+const FEW_STARTS: usize = 4;
+const FEW_RUNS: usize = 300;
+
 fn events(files: Files) -> usize {
     Log::read(files.log).map_or(0, |log| log.events())
 }
@@ -35,11 +43,29 @@ fn fields(files: Files) -> usize {
     Log::read(files.log).map_or(2, |log| log.rising.len())
 }
 
-/// The three cases that a seed rolls, each with many calls.
+/// The three cases that a seed rolls, each with many calls, and bad logs made
+/// of one of them.
 pub fn rolled(comparison: &mut Comparison, seed: u64) -> Check {
+    let small = random::small(seed);
     case(comparison, &random::case(seed))?;
-    case(comparison, &random::small(seed))?;
-    case(comparison, &guards::case(seed))
+    case(comparison, &small)?;
+    case(comparison, &guards::case(seed))?;
+    bad_logs(comparison, &small, seed)
+}
+
+/// The log cut at every byte, and with one bit of each byte flipped.
+fn bad_logs(comparison: &mut Comparison, case: &Case, seed: u64) -> Check {
+    let flipped = |at: usize| {
+        let mut copy = case.log.clone();
+        copy[at] ^= 1 << ((seed as usize + at) % 8);
+        copy
+    };
+    let flips: Vec<Vec<u8>> = (0..case.log.len()).map(flipped).collect();
+    for log in cuts(&case.log).iter().chain(&flips) {
+        let formula = &case.formula;
+        comparison.read_log(Files { log, formula })?;
+    }
+    Ok(())
 }
 
 fn case(comparison: &mut Comparison, case: &Case) -> Check {
@@ -54,9 +80,26 @@ fn case(comparison: &mut Comparison, case: &Case) -> Check {
     if read_both(files.log, files.formula).is_err() {
         return refused_files(comparison, files);
     }
+    absent_fields(comparison, files);
     starts(comparison, files)?;
     work_words(comparison, files, case)?;
     row_words(comparison, files)
+}
+
+/// Tells where absent fields count in searches from the first events.
+fn absent_fields(comparison: &mut Comparison, files: Files) {
+    let Ok((log, formula)) = read_both(files.log, files.formula) else {
+        return;
+    };
+    let setting = Setting {
+        log: &log,
+        formula: &formula,
+    };
+    let lacking = log.recorded.iter().any(|event| event.contains(&None));
+    for start in (0..log.events().min(FEW_STARTS)).filter(|_| lacking) {
+        let reached = reached(&setting, start, FEW_RUNS);
+        comparison.counts.absent(&reached.unwrap_or_default());
+    }
 }
 
 /// The formula is read against other numbers of fields too.
@@ -167,7 +210,7 @@ fn doubled(bytes: &[u8]) -> Vec<Vec<u8>> {
 }
 
 fn set_to_few(bytes: &[u8]) -> Vec<Vec<u8>> {
-    set_to(bytes, &[0, 1, 2, 4, 255])
+    set_to(bytes, &[0, 1, 2, 3, 4, 255])
 }
 
 fn set_to_all(bytes: &[u8]) -> Vec<Vec<u8>> {
@@ -197,14 +240,18 @@ fn brief(comparison: &mut Comparison, files: Files) -> Check {
     comparison.analysis(files, 4 * SEAT_WORDS, ROW_WORDS * events(files) + 5)
 }
 
-/// Absent states, events and seats at their limits, heavy formulas on shorter
-/// logs.
+/// Absent states, broken events, fields that never arrive, events and seats at
+/// their limits, heavy formulas on shorter logs.
 pub fn limits(comparison: &mut Comparison) -> Check {
-    for pair in files::absent() {
+    for pair in [files::absent(), lacking::broken()].concat() {
         brief(comparison, pair.files())?;
     }
-    for over in 0..=1 {
-        let pair = files::longest(over);
+    for pair in lacking::unarrived() {
+        brief(comparison, pair.files())?;
+        starts(comparison, pair.files())?;
+    }
+    let longest = |over: usize| [files::longest(over), lacking::longest(over)];
+    for pair in [longest(0), longest(1)].concat() {
         brief(comparison, pair.files())?;
         comparison.analysis(pair.files(), ALL_SEATS, ROW_WORDS * 1024 - 1)?;
         comparison.search(pair.files(), 1023, SEAT_WORDS)?;

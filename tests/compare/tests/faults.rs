@@ -21,9 +21,8 @@ fn every_fault_shows() {
     let clean = compared(&mut comparison);
     assert!(clean.is_ok(), "{:?}", clean.err());
     println!("{}", comparison.counts);
-    let reached = &comparison.counts.refusals[1..];
-    assert!(reached.iter().all(|&times| times > 0), "{reached:?}");
-    for fault in Fault::ALL {
+    assert_eq!(comparison.counts.missing(), None);
+    for &fault in Fault::ALL {
         switch(fault);
         match compared(&mut Comparison::default()) {
             Ok(()) => panic!("{fault:?} does not show"),

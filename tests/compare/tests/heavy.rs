@@ -31,7 +31,7 @@ fn seats_nearly_full_and_never_crowded() {
         assert_eq!(answer, Ok(()), "{kind:?}");
         let found = search(&pair.log, &pair.formula, 5, WORDS).expect("no refusal");
         let least = match kind {
-            Kind::Ordinary | Kind::Guards | Kind::Committed => 60,
+            Kind::Ordinary | Kind::Lacking | Kind::Guards | Kind::Committed => 60,
             Kind::Overlap | Kind::Quiet => 1,
             Kind::Still => 0,
             Kind::Full => 59,

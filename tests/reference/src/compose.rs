@@ -43,6 +43,28 @@ pub fn event(values: &[u32]) -> Vec<u8> {
     bytes
 }
 
+/// An event that may lack fields; a value of those is written as 0.
+pub fn lacking(values: &[Option<u32>]) -> Vec<u8> {
+    let bit = |(field, value): (usize, &Option<u32>)| u8::from(value.is_some()) << field;
+    let mut bytes = vec![0x03, values.iter().enumerate().map(bit).sum()];
+    values
+        .iter()
+        .for_each(|value| bytes.extend(value.unwrap_or(0).to_be_bytes()));
+    bytes
+}
+
+/// A log of the given field kinds; an event is one that may lack fields only
+/// where it does.
+pub fn log_lacking(kinds: &[u8], events: &[&[Option<u32>]]) -> Vec<u8> {
+    let mut parts: Vec<Vec<u8>> = kinds.iter().map(|&kind| field(kind)).collect();
+    let whole = |values: &[Option<u32>]| values.iter().copied().collect::<Option<Vec<u32>>>();
+    parts.extend(events.iter().map(|values| match whole(values) {
+        Some(values) => event(&values),
+        None => lacking(values),
+    }));
+    file(&parts)
+}
+
 /// A log of the given field kinds and events.
 pub fn log(kinds: &[u8], events: &[&[u32]]) -> Vec<u8> {
     let mut parts: Vec<Vec<u8>> = kinds.iter().map(|&kind| field(kind)).collect();

@@ -10,6 +10,7 @@ pub mod log;
 pub mod machine;
 pub mod program;
 pub mod random;
+pub mod reach;
 pub mod refusal;
 pub mod runs;
 pub mod search;

@@ -1,6 +1,10 @@
-//! Configurations, the value of an expression, firing, and hopeless steps.
+//! Configurations, the value and the trend of an expression, firing.
 
-use crate::formula::{Expression, Formula, Kind, Operator, Pair, Right, State, Step, Test};
+mod hopeless;
+
+pub use hopeless::giver;
+
+use crate::formula::{Expression, Formula, Kind, Pair, Right, State, Step, Test};
 use crate::formula::{LISTS, MOST_STATES, VARIABLES};
 use crate::log::Log;
 use std::collections::BTreeSet;
@@ -161,21 +165,25 @@ impl Setting<'_> {
         self.state(config).kind
     }
 
-    /// The configuration a step leads to on event n, if it fires there.
+    /// The configuration a step leads to on event n, if it fires there. What
+    /// reads an absent field keeps it from firing.
     pub fn fire(&self, config: &Config, step: &Step, n: usize) -> Option<Config> {
         let event = self.log.event(n);
-        if !step.tests.iter().all(|test| holds(test, event, config)) {
+        let holds = |test: &Test| event[test.field].is_some_and(|now| holds(test, now, config));
+        if !step.tests.iter().all(holds) {
             return None;
         }
         let mut after = config.clone();
         for bind in &step.binds {
-            let fresh = event[bind.field];
+            let fresh = event[bind.field]?;
             if after.held[bind.variable].is_some_and(|known| known != fresh) {
                 return None;
             }
             after.held[bind.variable] = Some(fresh);
         }
-        gather(&mut after.lists, step, event);
+        for gather in &step.gathers {
+            after.lists.add(gather.list, event[gather.field]?);
+        }
         after.counts[usize::from(config.state)] += 1;
         after.state = step.target;
         match &step.guard {
@@ -183,81 +191,13 @@ impl Setting<'_> {
             _ => Some(after),
         }
     }
-
-    /// Is the step hopeless after event n?
-    pub fn hopeless(&self, config: &Config, step: &Step, n: usize) -> bool {
-        let event = self.log.event(n);
-        let too_late = |test: &Test| {
-            let upper = matches!(test.operator, Operator::Less | Operator::AtMost);
-            upper && self.log.rising[test.field] && !holds(test, event, config)
-        };
-        step.tests.iter().any(too_late) || self.guard_hopeless(config, step, event)
-    }
-
-    /// Is the guard falling and already 0?
-    fn guard_hopeless(&self, config: &Config, step: &Step, event: &[u32]) -> bool {
-        let Some(guard) = &step.guard else {
-            return false;
-        };
-        let mut after = config.clone();
-        for bind in &step.binds {
-            // Only the first BIND of a variable that is not held counts.
-            let held = &mut after.held[bind.variable];
-            *held = held.or(Some(event[bind.field]));
-        }
-        gather(&mut after.lists, step, event);
-        after.counts[usize::from(config.state)] += 1;
-        value(guard, &after) == 0 && trend(guard, &self.trends(config, step)).falling
-    }
-
-    /// The trends of what a step's guard names while the configuration waits.
-    fn trends(&self, config: &Config, step: &Step) -> Trends {
-        // What takes a field's value next rises if the field does.
-        let fresh = |field: usize| match self.log.rising[field] {
-            true => Trend::RISING,
-            false => Trend::NEITHER,
-        };
-        let held = |known: Option<u32>| match known {
-            Some(_) => Trend::BOTH,
-            None => Trend::NEITHER,
-        };
-        let mut trends = Trends {
-            variables: config.held.map(held),
-            sums: [Trend::BOTH; LISTS],
-            different: [Trend::BOTH; LISTS],
-        };
-        // Only the first BIND of a variable that is not held counts.
-        for bind in step.binds.iter().rev() {
-            if config.held[bind.variable].is_none() {
-                trends.variables[bind.variable] = fresh(bind.field);
-            }
-        }
-        for gather in &step.gathers {
-            trends.sums[gather.list] = fresh(gather.field);
-            trends.different[gather.list] = Trend::NEITHER;
-        }
-        trends
-    }
-
-    /// Is some step out of the configuration not hopeless after event n?
-    pub fn hopeful(&self, config: &Config, n: usize) -> bool {
-        let steps = &self.state(config).steps;
-        steps.iter().any(|step| !self.hopeless(config, step, n))
-    }
 }
 
-/// Adds the event's values to the lists that the step gathers into.
-fn gather(lists: &mut Lists, step: &Step, event: &[u32]) {
-    for gather in &step.gathers {
-        lists.add(gather.list, event[gather.field]);
-    }
-}
-
-/// Does the test hold on the event, with the values held before?
-fn holds(test: &Test, event: &[u32], config: &Config) -> bool {
+/// Does the test hold for the field's value, with the values held before?
+fn holds(test: &Test, now: u32, config: &Config) -> bool {
     let right = match test.right {
         Right::Value(constant) => Some(constant),
         Right::Variable(variable) => config.held[variable],
     };
-    right.is_some_and(|right| test.operator.holds(event[test.field], right))
+    right.is_some_and(|right| test.operator.holds(now, right))
 }

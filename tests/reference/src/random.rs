@@ -1,5 +1,6 @@
 //! Cases from a seed: the same seed always makes the same case.
 
+mod absent;
 mod damage;
 mod dice;
 mod expressions;
@@ -8,8 +9,10 @@ mod formulas;
 mod gathering;
 mod limits;
 mod logs;
+mod unarrived;
 mod windows;
 
+pub use absent::thin;
 pub use dice::Dice;
 
 use crate::analysis::ROW_WORDS;
@@ -26,10 +29,11 @@ pub struct Case {
     pub row_words: usize,
 }
 
-/// A case of any kind: good, at a limit, crowded, long or damaged.
+/// A case of any kind: good, at a limit, crowded, long or damaged; events of
+/// some logs lack fields.
 pub fn case(seed: u64) -> Case {
     let mut dice = Dice::new(seed);
-    let (mut log, mut formula) = match dice.below(29) {
+    let (mut log, mut formula) = match dice.below(32) {
         0..=5 => formulas::pair(&mut dice, false),
         6..=9 => windows::window(&mut dice),
         10..=13 => formulas::pair(&mut dice, true),
@@ -37,8 +41,12 @@ pub fn case(seed: u64) -> Case {
         17..=18 => families::crowd(&mut dice),
         19..=21 => families::ends(&mut dice),
         22..=26 => gathering::pair(&mut dice),
+        27..=29 => unarrived::pair(&mut dice),
         _ => limits::pair(&mut dice),
     };
+    if dice.chance(30) {
+        thin(&mut dice, &mut log);
+    }
     let events = Log::read(&log).map_or(0, |log| log.events());
     match dice.below(10) {
         0 => damage::spoil(&mut dice, &mut log),
@@ -55,13 +63,17 @@ pub fn case(seed: u64) -> Case {
 /// A small case that passes its checks nearly always and has few runs.
 pub fn small(seed: u64) -> Case {
     let mut dice = Dice::new(seed ^ 0x5EED_0000_0000);
-    let (log, formula) = match dice.below(13) {
+    let (mut log, formula) = match dice.below(17) {
         0 => families::ends(&mut dice),
         1 => families::crowd(&mut dice),
         2..=4 => windows::window(&mut dice),
         5..=7 => gathering::pair(&mut dice),
+        8..=11 => unarrived::pair(&mut dice),
         _ => formulas::pair(&mut dice, false),
     };
+    if dice.chance(35) {
+        thin(&mut dice, &mut log);
+    }
     let events = Log::read(&log).map_or(0, |log| log.events());
     call(&mut dice, log, formula, events)
 }

@@ -23,7 +23,7 @@ fn accepted_logs() {
 #[test]
 fn values_are_big_endian() {
     let log = Log::read(&hex("0100 02 01020304 00")).expect("a log");
-    assert_eq!(log.event(0), [0x0102_0304]);
+    assert_eq!(log.event(0), [Some(0x0102_0304)]);
 }
 
 #[test]
@@ -32,6 +32,8 @@ fn only_field_may_come_first() {
     assert_eq!(refused(hex("02")), (1, 2, 0));
     assert_eq!(refused(hex("02 00000000 00")), (1, 2, 0));
     assert_eq!(refused(hex("03")), (1, 2, 0));
+    assert_eq!(refused(hex("03 00 00000000 00")), (1, 2, 0));
+    assert_eq!(refused(hex("04")), (1, 2, 0));
 }
 
 #[test]
@@ -45,7 +47,7 @@ fn end_missing_or_operands_missing() {
 
 #[test]
 fn unknown_commands_and_kinds() {
-    assert_eq!(refused(hex("0100 03 00")), (1, 2, 2));
+    assert_eq!(refused(hex("0100 04 00")), (1, 2, 2));
     assert_eq!(refused(hex("0100 10 00")), (1, 2, 2));
     assert_eq!(refused(hex("0102 00")), (1, 3, 0));
     assert_eq!(refused(hex("0100 01FF")), (1, 3, 2));

@@ -22,6 +22,18 @@ fn trip_then_open(kind: u8) -> Vec<u8> {
     file(&[trip, open, state(kind)])
 }
 
+/// A trip at 500, an event with the code or nothing, an open at 520.
+fn between(code: Option<u32>) -> Vec<u8> {
+    let trip = join(&[event(&[500, 1]), lacking(&[None, code])]);
+    let open = lacking(&[Some(520), Some(2)]);
+    file(&[field(1), field(0), trip, open])
+}
+
+/// A time or none, then none, then the last event.
+fn timed(first: Option<u32>, last: Vec<u8>) -> Vec<u8> {
+    file(&[field(1), lacking(&[first]), lacking(&[None]), last])
+}
+
 fn log_named(name: &str) -> Vec<u8> {
     let times: [&[u32]; 4] = [&[598], &[599], &[600], &[601]];
     let alike: [&[u32]; 32] = [&[0]; 32];
@@ -33,9 +45,28 @@ fn log_named(name: &str) -> Vec<u8> {
         "plain" => log(&[0], &times),
         "nine" => log(&[0], &[&[0], &[0], &[9]]),
         "many" => log(&[0], &alike),
+        "untimed" => between(Some(1)),
+        "nothing" => between(None),
+        "unseen" => timed(None, lacking(&[None])),
+        "late" => timed(Some(600), lacking(&[None])),
+        "early" => timed(Some(599), lacking(&[None])),
+        "fall" => timed(Some(600), event(&[599])),
         "empty" => Vec::new(),
         _ => panic!("no log {name}"),
     }
+}
+
+/// A bare step, then one with these parts.
+fn bare_then(parts: &[Vec<u8>]) -> Vec<u8> {
+    let guarded = join(&[state(0), step(2), join(parts)]);
+    file(&[state(0), step(1), guarded, state(2)])
+}
+
+/// The guard is 0, and names the variable in the branch not taken.
+fn choice() -> Vec<u8> {
+    let other = op(LESS, &[var(1), constant(600)]);
+    let chosen = op(IF, &[constant(1), constant(0), other]);
+    bare_then(&[bind(0, 1), guard(chosen)])
 }
 
 fn formula_named(name: &str) -> Vec<u8> {
@@ -47,6 +78,7 @@ fn formula_named(name: &str) -> Vec<u8> {
     let waits = join(&[state(0), step(3), test(0, 0, 1)]);
     let soon = join(&[state(0), step(1), test(0, 2, 600)]);
     let ended = guard(op(EQUAL, &[count(0), constant(32)]));
+    let short = guard(op(LESS, &[length(8), constant(1)]));
     match name {
         "F" => trip_then_open(2),
         "rejecting" => trip_then_open(3),
@@ -57,6 +89,8 @@ fn formula_named(name: &str) -> Vec<u8> {
         "before" => file(&[both, soon, state(0), step(2)]),
         "repeated" => file(&[bare.clone(), bare, step(2), test(0, 0, 9), state(2)]),
         "counted" => file(&[state(1), step(1), ended, step(0), state(2)]),
+        "choice" => choice(),
+        "length" => bare_then(&[gather(0, 8), short]),
         "empty" => Vec::new(),
         _ => panic!("no formula {name}"),
     }
@@ -76,5 +110,5 @@ fn the_stored_answers() {
         let answer = String::from_utf8(output.stdout).expect("text");
         assert_eq!(answer.trim_end(), parts[4], "{line}");
     }
-    assert_eq!(STORED.lines().count(), 33);
+    assert_eq!(STORED.lines().count(), 47);
 }

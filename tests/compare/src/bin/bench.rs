@@ -22,7 +22,7 @@ const LEAST: Duration = Duration::from_millis(100);
 
 const USAGE: &str = "bench [--repeat N] [--events N] [KIND..]
 bench --once analysis|search KIND product|plain [EVENTS]
-kinds: ordinary guards committed overlap quiet still full gather";
+kinds: ordinary lacking guards committed overlap quiet still full gather";
 
 struct Options {
     repeat: usize,

@@ -1,8 +1,9 @@
 //! The stand-in's own search: that of the reference, with the faults that a
-//! product may have in treating lists.
+//! product may have in treating lists and absent fields.
 
-use super::{has, Fault};
-use reference::formula::{Expression, Formula, Kind, State, Step, LISTS};
+use super::absent::{self, Named};
+use super::fault::{has, Fault};
+use reference::formula::{Expression, Formula, Kind, State, Step, LISTS, VARIABLES};
 use reference::machine::{trend, value, Config, Lists, Setting, Trend, Trends};
 use reference::runs::{Outcome, Run, MOST_RUN};
 use std::collections::BTreeMap;
@@ -70,11 +71,15 @@ fn is_zero(guard: &Expression, config: &Config) -> bool {
     }
 }
 
-/// The lists with the event's values; a step gathers into each at most once.
-fn gathered(lists: &Lists, step: &Step, event: &[u32]) -> Lists {
+/// The lists with the values that the step would gather; it gathers into each
+/// at most once. A length counts a value that is not known, too.
+fn gathered(setting: &Setting, lists: &Lists, step: &Step, n: usize) -> Lists {
     let mut after = lists.clone();
     for gather in &step.gathers {
-        after.add(gather.list, event[gather.field]);
+        let latest = setting.log.latest(gather.field, n);
+        if latest.is_some() || !has(Fault::LengthWithoutUnknown) {
+            after.add(gather.list, latest.unwrap_or(0));
+        }
     }
     after
 }
@@ -101,7 +106,8 @@ fn steps(formula: &Formula) -> Vec<Vec<Own>> {
 }
 
 fn fire(setting: &Setting, config: &Config, step: &Own, n: usize) -> Option<Config> {
-    let after = setting.fire(config, &step.bare, n)?;
+    let bare = absent::read(&step.bare, setting.log.event(n));
+    let after = setting.fire(config, &bare, n)?;
     let Some(guard) = &step.guard else {
         return Some(after);
     };
@@ -118,19 +124,26 @@ fn fire(setting: &Setting, config: &Config, step: &Own, n: usize) -> Option<Conf
 
 fn hopeless(setting: &Setting, config: &Config, own: &Own, n: usize) -> bool {
     let step = &own.bare;
-    let late = setting.hopeless(config, step, n);
+    let late = setting.hopeless(config, step, n) || absent::too_late(setting, step, n);
     late || own.guard.as_ref().is_some_and(|guard| {
-        let event = setting.log.event(n);
         let mut after = config.clone();
-        for bind in &step.binds {
-            let held = &mut after.held[bind.variable];
-            *held = held.or(Some(event[bind.field]));
+        for variable in 0..VARIABLES {
+            let taken = absent::taken(setting, config, step, variable, n);
+            after.held[variable] = config.held[variable].or(taken);
         }
         if !has(Fault::ExpiryWithoutGather) {
-            after.lists = gathered(&config.lists, step, event);
+            after.lists = gathered(setting, &config.lists, step, n);
         }
         after.counts[usize::from(config.state)] += 1;
-        is_zero(guard, &after) && trend(guard, &trends(setting, config, step)).falling
+        let named = Named {
+            setting,
+            config,
+            step,
+            n,
+            after: &after,
+        };
+        let falling = trend(guard, &trends(setting, config, step)).falling;
+        is_zero(guard, &after) && falling && !named.lets_off(guard)
     })
 }
 
@@ -198,14 +211,19 @@ fn spread(
 
 pub fn search(setting: &Setting, start: usize, seats: usize) -> Outcome {
     let steps = steps(setting.formula);
+    let seen = absent::seen(setting.log);
+    let firing = Setting {
+        log: &seen,
+        formula: setting.formula,
+    };
     let begin = (Config::START, (Vec::new(), Vec::new()));
     let mut threads = Threads::new();
     let mut width = 0;
     for n in start..setting.log.events() {
         let mut found = Vec::new();
         match n == start {
-            true => drop(spread(setting, &steps, &begin, n, &mut found)),
-            false => threads.retain(|_, thread| spread(setting, &steps, thread, n, &mut found)),
+            true => drop(spread(&firing, &steps, &begin, n, &mut found)),
+            false => threads.retain(|_, thread| spread(&firing, &steps, thread, n, &mut found)),
         }
         let (ended, open): (Vec<_>, Vec<_>) = found
             .into_iter()
@@ -222,9 +240,13 @@ pub fn search(setting: &Setting, start: usize, seats: usize) -> Outcome {
                 *known = (config, trail);
             }
         }
+        let judged = Setting {
+            log: &absent::judged(setting.log, start, n),
+            formula: setting.formula,
+        };
         threads.retain(|_, (config, _)| {
             let own = &steps[usize::from(config.state)];
-            own.iter().any(|step| !hopeless(setting, config, step, n))
+            own.iter().any(|step| !hopeless(&judged, config, step, n))
         });
         if threads.len() > seats {
             return Outcome::Crowded(n);

@@ -1,6 +1,6 @@
 //! Damage to a file: cut, flip, insert, delete, append, copy.
 
-use super::Dice;
+use super::{absent, Dice};
 
 /// Spoils the bytes once, seldom twice.
 pub fn spoil(dice: &mut Dice, bytes: &mut Vec<u8>) {
@@ -12,6 +12,9 @@ pub fn spoil(dice: &mut Dice, bytes: &mut Vec<u8>) {
 fn once(dice: &mut Dice, bytes: &mut Vec<u8>) {
     if bytes.is_empty() {
         bytes.push(command(dice));
+        return;
+    }
+    if absent::spoil(dice, bytes) {
         return;
     }
     if let Some(at) = a_gather(dice, bytes) {
