@@ -144,7 +144,8 @@ pub record SomeFormula (fields : ℕ) (f : List ℕ) : Type 0 where
   pub formula : Formula
   pub is : IsFormula fields f formula
 
--- event n of the log is the n-th EVENT command of the file, from 0: behind all FIELDs and n EVENTs, whatever its values
+-- event n of the log is the n-th EVENT command of the file, 02 or 03, from 0: behind all FIELDs and n EVENTs, whatever its values; what it sends are the
+-- event's values, none for an absent field
 pub record Recorded (l : List ℕ) (t : LogFile) (n : ℕ) : Type 0 where
   pub before : List Entry
   pub sent : Payload
