@@ -19,7 +19,7 @@ pub struct Configuration {
 
 // A walk over a step's clauses: where it stands, whether every clause so far passes, whether one is past due, whether one is a
 // GATHER, the variables held so far with their values, and those whose value only grows: held before the step, or first bound
-// to a rising field.
+// to a rising field that has a value.
 struct Walked {
     at: usize,
     passes: bool,
@@ -30,8 +30,8 @@ struct Walked {
     grows: [bool; 8],
 }
 
-// What a step's GATHERs leave: the tallies, the lists into which every field gathered is rising, and those into which none was
-// gathered.
+// What a step's GATHERs leave: the tallies, the lists into which every field gathered is rising and has a value, and those into which
+// none was gathered.
 struct Gained {
     tallies: [u32; 12],
     rising: [bool; 4],
