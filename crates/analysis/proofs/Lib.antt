@@ -5,3 +5,4 @@ pub mod Row
 pub mod Demand
 pub mod Only
 pub mod Last
+pub mod AsBefore

@@ -32,14 +32,6 @@ copy-done words part i n h e =
     let d : drop i words ≡ [] = drop-of-length-le words h in
     fill-done words part i (omega arith) (e ∙ ap (λ t. take i part ++ t) d)
 
--- one bit more of a mask is read
-pub bits-next : (whole held : List Bool) (v rest : ℕ) → v < 8 → length held ≡ 8 → whole ≡ take v held ++ bitsOf (8 - v) rest
-    → whole ≡ take (v + 1) (set held v (eqb (rest % 2) 1)) ++ bitsOf (8 - (v + 1)) (rest / 2)
-unfolding bitsOf
-bits-next whole held v rest h n e =
-    let k : 8 - v ≡ suc (8 - (v + 1)) = omega arith in
-    fill-next whole held (bitsOf (8 - (v + 1)) (rest / 2)) v (eqb (rest % 2) 1) (omega arith) (rw k at e)
-
 -- a mask's bits by number
 pub bits-at : (n v m : ℕ) → v < n → getD (bitsOf n m) v false ≡ eqb (m / 2 ^ v % 2) 1
 unfolding bitsOf

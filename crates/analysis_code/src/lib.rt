@@ -28,15 +28,7 @@ struct RowRun {
 fn held_in(mask: u32) -> [bool; 8]
     ensures { λ r. ⌜ r ≡ bitsOf 8 mask ⌝ }
 {
-    let mut held = [false; 8];
-    let mut rest = mask;
-    let mut v: usize = 0;
-    while v < 8 {
-        held[v] = rest % 2 == 1;
-        rest = rest / 2;
-        v += 1;
-    }
-    held
+    base::bits_of(mask, 8)
 }
 
 // The eight values of a row.

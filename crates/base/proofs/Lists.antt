@@ -53,6 +53,19 @@ module _ {A : Type 0} where
   set-pad (suc n) d [] y h = refl
   set-pad (suc n) d (x ∷ xs) y h = ap (λ l. x ∷ l) (set-pad n d xs y (omega arith))
 
+  -- so does storing the next of a list that grows by one
+  pub store : (d : A) (f : ℕ → List A) (k : ℕ) (y : A) (array : List A) → k < 8 → length (f k) ≡ k → f (suc k) ≡ f k ++ (y ∷ []) → array ≡ pad 8 d (f k)
+      → set array k y ≡ pad 8 d (f (k + 1))
+  store d f k y array h n e a = rw (add-one k, e, ← set-pad 8 d (f k) y (rw n h), n, a)
+
+  -- a list with an element for every place
+  pub pad-whole : (n : ℕ) (d : A) (xs : List A) → length xs ≡ n → pad n d xs ≡ xs
+  unfolding pad
+  pad-whole zero d [] h = refl
+  pad-whole zero d (x ∷ xs) h = absurd (omega arith)
+  pad-whole (suc n) d [] h = absurd (omega arith)
+  pad-whole (suc n) d (x ∷ xs) h = ap (λ l. x ∷ l) (pad-whole n d xs (omega arith))
+
   -- what holds of every element of two lists holds of every element of both in a row
   pub All-append : (P : A → Type 0) (xs ys : List A) → All P xs → All P ys → All P (xs ++ ys)
   All-append P [] ys h k = k

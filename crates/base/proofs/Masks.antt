@@ -1,15 +1,17 @@
 -- Masks bit by bit: made from the highest flag down, their size, the bit at a place; and read back.
 use Prim.Native.Nat.{ℕ, zero, suc, _+_, _*_, _/_, _%_, _^_, _<_, _≤_}
-use mathlib.Core.Path.{_≡_, refl, ap, ap₂}
+use mathlib.Core.Path.{_≡_, refl, ap, ap₂, _∙_}
 use mathlib.Core.Bool.{Bool, true, false}
-use mathlib.Core.List.{List, [], _∷_}
+use mathlib.Core.List.{List, [], _∷_, _++_}
 use native.Mathlib.Numerals.{add-one}
 use native.Mathlib.Nat.{pow-suc, pow-succ', zero-div, div-div-eq-div-mul}
 use native.Mathlib.Omega.{arith}
-use lib.ListN.{length, getD, drop}
+use lib.ListN.{length, getD, drop, set}
 use lib.Seq.{drop-cons}
 use lib.Dec.{eqb}
+use Rattle.base.specs.Lists.{pad}
 use Rattle.base.specs.Mask.{bit, mask, bitsOf}
+use Rattle.base.proofs.Lists.{store}
 
 -- one bit more of a mask is written, from the highest down
 pub mask-next : (hs : List Bool) (v w : ℕ) → w + 1 ≡ v → w < length hs → bit (getD hs w false) + 2 * mask (drop v hs) ≡ mask (drop w hs)
@@ -51,6 +53,18 @@ pub length-bits : (m b : ℕ) → length (bitsOf m b) ≡ m
 unfolding bitsOf
 length-bits zero b = refl
 length-bits (suc m) b = ap suc (length-bits m (b / 2))
+
+-- one bit more stands behind those read
+bits-more : (m b : ℕ) → bitsOf (suc m) b ≡ bitsOf m b ++ (eqb (b / 2 ^ m % 2) 1 ∷ [])
+unfolding bitsOf
+bits-more zero b = let e : b / 2 ^ 0 ≡ b = omega arith in rw e
+bits-more (suc m) b =
+    let e : b / 2 / 2 ^ m ≡ b / 2 ^ suc m = rw (pow-succ' 2 m) (div-div-eq-div-mul b 2 (2 ^ m)) in
+    ap (λ t. eqb (b % 2) 1 ∷ t) (bits-more m (b / 2) ∙ ap (λ x. bitsOf m (b / 2) ++ (eqb (x % 2) 1 ∷ [])) e)
+
+pub bits-store : (k b : ℕ) (x : Bool) (array : List Bool) → k < 8 → x ≡ eqb (b / 2 ^ k % 2) 1 → array ≡ pad 8 false (bitsOf k b)
+    → set array k x ≡ pad 8 false (bitsOf (k + 1) b)
+bits-store k b x array h e f = store false (λ m. bitsOf m b) k x array h (length-bits k b) (rw e (bits-more k b)) f
 
 -- flags are read back from their mask
 pub bits-back : (hs : List Bool) → bitsOf (length hs) (mask hs) ≡ hs

@@ -1,10 +1,11 @@
 // Bytes and values, which every reader of a file takes apart; tests, masks, the lower of two numbers.
 ghost use mathlib.Core.Path.{_≡_};
-ghost use mathlib.Core.Bool.{_&&_};
+ghost use mathlib.Core.Bool.{false, _&&_};
 ghost use Prim.Native.Nat.{_+_, _<_, _≤_, min};
 ghost use lib.ListN.{getD, length};
 ghost use Rattle.base.specs.Value.{valueAt};
-ghost use Rattle.base.specs.Mask.{bit, mask};
+ghost use Rattle.base.specs.Lists.{pad};
+ghost use Rattle.base.specs.Mask.{bit, mask, bitsOf};
 
 // Both of two tests.
 pub fn both(a: bool, b: bool) -> bool
@@ -36,6 +37,22 @@ pub fn mask_of(flags: [bool; 8]) -> u32
     while 0 < v {
         v -= 1;
         bits = bit_of(flags[v]) + 2 * bits;
+    }
+    bits
+}
+
+// The lowest m bits of a number, as flags.
+pub fn bits_of(number: u32, m: usize) -> [bool; 8]
+    requires { ⌜ m ≤ 8 ⌝ }
+    ensures { λ r. ⌜ r ≡ pad 8 false (bitsOf m number) ⌝ }
+{
+    let mut bits = [false; 8];
+    let mut rest = number;
+    let mut k: usize = 0;
+    while k < m {
+        bits[k] = rest % 2 == 1;
+        rest /= 2;
+        k += 1;
     }
     bits
 }

@@ -1,27 +1,33 @@
 -- On a log without 03 a step fires, and is hopeless, in the words that the paper had before there were absent fields.
 use Prim.Native.Nat.{ℕ, _<_}
-use mathlib.Core.Path.{_≡_, refl, ap}
+use mathlib.Core.Path.{_≡_, refl, ap, _∙_}
 use mathlib.Core.Bool.{Bool, true, false, not, _&&_, _||_, cond}
 use mathlib.Core.List.{List, [], _∷_, map}
 use mathlib.Core.Option.{Option, none, some}
-use lib.ListN.{length, getD, List·getD-map}
+use native.Mathlib.Omega.{arith}
+use lib.ListN.{length, getD, length-map, List·getD-map}
 use lib.Dec.{eqb}
 use Rattle.base.specs.Lists.{All}
 use Rattle.base.proofs.Lists.{All-at}
 use Rattle.base.proofs.Tests.{and-true, or-right}
 use Rattle.event_log.specs.Log.{Kind, field, Event, Log, eventAt}
-use Rattle.event_log.proofs.AsBefore.{whole, present-some, field-some, latest-plain}
+use Rattle.event_log.specs.File.{logOf}
+use Rattle.event_log.proofs.AsBefore.{plainFile, whole, present-some, field-some, all-present, latest-plain}
 use Rattle.formula.specs.Formula.{Formula, Step, Clause, TEST, TESTV, BIND, GATHER}
 use Rattle.formula.specs.Formula.{Leaf, CONST, VAR, COUNT, SUM, LENGTH, DIFFERENT, Expr, LEAF, ADD, SUB, LESS, ATMOST, EQUAL, NOT, AND, OR, IF}
 use Rattle.formula.specs.Encode.{CLAUSE, stepCommands}
 use Rattle.formula.specs.Correct.{Correct, Exists}
 use Rattle.formula.specs.Lookup.{stepAt}
 use Rattle.formula.proofs.Steps.{right-step}
-use Rattle.machine.specs.Configuration.{Config}
+use Rattle.runs.specs.Machine.{Machine}
+use Rattle.runs.specs.inner.Range.{upto}
+use Rattle.runs.specs.inner.Search.{search}
+use Rattle.runs.proofs.Alike.{search-alike}
+use Rattle.machine.specs.Configuration.{Config, same, start}
 use Rattle.machine.specs.Guard.{guardHolds}
 use Rattle.machine.specs.Firing.{holds, valueOf, isHeld, leave, allPass, fires, fire}
 use Rattle.machine.specs.Expiry.{rises, firstBind, missed, anyPastDue, guardFalls, arrived, gathersKnown, leafKnown, known, guardKnown, expired}
-use Rattle.machine.specs.Machine.{fireAt, expiredAt}
+use Rattle.machine.specs.Machine.{fireBy, fireAt, expiredBy, expiredAt, committed, final, machine}
 use Rattle.machine.proofs.Walk.{clauses-exist}
 
 -- the words of before, with a value for each field
@@ -133,29 +139,69 @@ module _ (e : List ℕ) where
   unfolding expired
   expired-before fields c s r = rw (due-before fields c (s .clauses) r, guard-known c (s .clauses) r (s .guard))
 
--- A log of 02 alone, and a formula that is correct against it: every step of the formula, on every event, as before; judged by that event's values.
-module _ (ks : List Kind) (vs : List (List ℕ)) (fm : Formula) (one : All (λ (v : List ℕ). length v ≡ length ks) vs) (right : Correct (length ks) fm)
-    (n : ℕ) (h : n < length vs) where
+-- the machine of a log of 02 alone, by its fields' kinds and its events' values, in the words of before
+abbrev fireByBefore : Option Step → Config → List ℕ → Option Config
+fireByBefore none c e = none
+fireByBefore (some s) c e = fireBefore c s e
+
+abbrev expiredByBefore : List Kind → Option Step → Config → List ℕ → Bool
+expiredByBefore fields none c x = true
+expiredByBefore fields (some s) c x = expiredBefore fields c s x
+
+abbrev pub machineBefore : List Kind → List (List ℕ) → Formula → Machine
+machineBefore ks vs fm = record {
+  Config = Config;
+  same = same;
+  start = start;
+  committed = committed fm;
+  final = final fm;
+  fire = λ c n k. fireByBefore (stepAt fm (c .state) k) c (getD vs n []);
+  expired = λ c k n. expiredByBefore ks (stepAt fm (c .state) k) c (getD vs n []);
+  steps = 8;
+  events = length vs;
+}
+
+-- A log of 02 alone, and a formula that is correct against it
+module _ (ks : List Kind) (vs : List (List ℕ)) (fm : Formula) (one : All (λ (v : List ℕ). length v ≡ length ks) vs) (right : Correct (length ks) fm) where
   abbrev log : Log
   log = record { fields = ks; events = map whole vs }
 
-  abbrev values : List ℕ
-  values = getD vs n []
+  -- on every event each step fires as before, and is judged as before: by that event's values
+  module _ (n : ℕ) (h : n < length vs) where
+    abbrev values : List ℕ
+    values = getD vs n []
 
-  event-is : (eventAt log n) .values ≡ map some values
-  unfolding eventAt
-  event-is = ap (λ (e : Event). e .values) (List·getD-map whole vs n [])
+    event-is : (eventAt log n) .values ≡ map some values
+    unfolding eventAt
+    event-is = ap (λ (e : Event). e .values) (List·getD-map whole vs n [])
 
-  reads : (s k : ℕ) (t : Step) → stepAt fm s k ≡ some t → All (λ (c : Clause). Exists (length values) (CLAUSE c)) (t .clauses)
-  unfolding stepCommands
-  reads s k t e =
-      rw (All-at (λ (v : List ℕ). length v ≡ length ks) vs n [] one h)
-      (clauses-exist (length ks) (t .clauses) (t .guard) (right-step (length ks) fm s k t right e .exist .1))
+    reads : (s k : ℕ) (t : Step) → stepAt fm s k ≡ some t → All (λ (c : Clause). Exists (length values) (CLAUSE c)) (t .clauses)
+    unfolding stepCommands
+    reads s k t e =
+        rw (All-at (λ (v : List ℕ). length v ≡ length ks) vs n [] one h)
+        (clauses-exist (length ks) (t .clauses) (t .guard) (right-step (length ks) fm s k t right e .exist .1))
 
-  pub fires-before : (c : Config) (k : ℕ) (t : Step) → stepAt fm (c .state) k ≡ some t → fireAt log fm c n k ≡ fireBefore c t values
-  unfolding fireAt
-  fires-before c k t e = rw (e, event-is) (fire-before values c t (reads (c .state) k t e))
+    pub fires-before : (c : Config) (k : ℕ) → fireAt log fm c n k ≡ fireByBefore (stepAt fm (c .state) k) c values
+    unfolding fireAt
+    fires-before c k = rw event-is (go (stepAt fm (c .state) k) refl)
+      where
+        go : (o : Option Step) → stepAt fm (c .state) k ≡ o → fireBy o c (map some values) ≡ fireByBefore o c values
+        go none e = refl
+        go (some t) e = fire-before values c t (reads (c .state) k t e)
 
-  pub expires-before : (c : Config) (k : ℕ) (t : Step) → stepAt fm (c .state) k ≡ some t → expiredAt log fm c k n ≡ expiredBefore ks c t values
-  unfolding expiredAt
-  expires-before c k t e = rw (e, latest-plain ks vs one n h) (expired-before values ks c t (reads (c .state) k t e))
+    pub expires-before : (c : Config) (k : ℕ) → expiredAt log fm c k n ≡ expiredByBefore ks (stepAt fm (c .state) k) c values
+    unfolding expiredAt
+    expires-before c k = rw (latest-plain ks vs one n h) (go (stepAt fm (c .state) k) refl)
+      where
+        go : (o : Option Step) → stepAt fm (c .state) k ≡ o → expiredBy ks o c (map some values) ≡ expiredByBefore ks o c values
+        go none e = refl
+        go (some t) e = expired-before values ks c t (reads (c .state) k t e)
+
+  -- so that a search from any event, with any number of slots, is answered as before.
+  pub search-before : (slots i : ℕ) → search (machine (logOf (plainFile ks vs)) fm) slots i ≡ search (machineBefore ks vs fm) slots i
+  search-before slots i =
+      rw (all-present vs)
+      (search-alike (machine log fm) (machineBefore ks vs fm .fire) (machineBefore ks vs fm .expired)
+      (λ c n k h. fires-before n (omega (arith, h, length-map vs whole)) c k)
+      (λ c k n h. expires-before n (omega (arith, h, length-map vs whole)) c k) slots i
+      ∙ ap (λ e. search (upto (machineBefore ks vs fm) e) slots i) (length-map vs whole))

@@ -15,4 +15,5 @@ pub mod Growth
 pub mod OneByOne
 pub mod Loop
 pub mod Range
+pub mod Alike
 mod Examples

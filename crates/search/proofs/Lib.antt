@@ -2,3 +2,4 @@
 pub mod Checks
 pub mod Premises
 pub mod Demand
+pub mod AsBefore
