@@ -1,14 +1,12 @@
 -- Worked examples of one step in the words of the paper, computed by the definitions.
-use Prim.Native.Nat.{ℕ, zero, suc, _≤_, _<_}
+use Prim.Native.Nat.{ℕ}
 use mathlib.Core.Path.{_≡_, refl}
 use mathlib.Core.Bool.{true, false}
 use mathlib.Core.List.{List, [], _∷_}
 use mathlib.Core.Option.{none, some}
-use native.Mathlib.Omega.{arith}
-use lib.ListN.{getD, replicate}
-use Rattle.event_log.specs.Log.{plain, rising as risingField, present, field, Log, eventAt}
-use Rattle.event_log.specs.Latest.{over, latest}
-use Rattle.formula.specs.Formula.{equal, unequal, less, atmost, Clause, TEST, TESTV, BIND, GATHER, Step, ordinary, accept, Formula}
+use lib.ListN.{replicate}
+use Rattle.event_log.specs.Log.{plain, rising as risingField, Log, eventAt}
+use Rattle.formula.specs.Formula.{equal, less, atmost, Clause, TEST, TESTV, BIND, GATHER, Step, ordinary, accept, Formula}
 use Rattle.formula.specs.Formula.{CONST, VAR, COUNT, SUM, LENGTH, DIFFERENT, Expr, LEAF}
 use Rattle.formula.specs.Formula.{LESS, ATMOST, EQUAL, OR, IF}
 use Rattle.formula.specs.Unbound.{stepsOf}
@@ -17,8 +15,7 @@ use Rattle.machine.specs.Configuration.{Config, start}
 use Rattle.machine.specs.Guard.{value}
 use Rattle.machine.specs.Firing.{hold, leave, fires, fire}
 use Rattle.machine.specs.Expiry.{rising, falling, known, expired}
-use Rattle.machine.specs.Machine.{fireAt, expiredAt, final, accepting}
-use Rattle.machine.proofs.Machine.{Premises}
+use Rattle.machine.specs.Machine.{fireAt, expiredAt, accepting}
 
 -- "LESS to OR give 0 or 1"
 pub or-gives-one : (c : Config) → value c (OR (LEAF (CONST 5)) (LEAF (CONST 7))) ≡ 1
@@ -26,10 +23,10 @@ unfolding value
 or-gives-one c = refl
 
 -- a step to state t with these clauses and no guard
-abbrev bare : ℕ → List Clause → Step
+abbrev pub bare : ℕ → List Clause → Step
 bare t ks = record { target = t; clauses = ks; guard = none }
 
-abbrev guarded : ℕ → List Clause → Expr → Step
+abbrev pub guarded : ℕ → List Clause → Expr → Step
 guarded t ks g = record { target = t; clauses = ks; guard = some g }
 
 -- "a step with time less than 600 is hopeless after 600, not after 599"
@@ -66,7 +63,7 @@ unfolding fire fires leave hold start
 testv-before = refl
 
 -- a variable that holds x, and nothing else, in state s with these counters
-abbrev holding : ℕ → ℕ → List ℕ → Config
+abbrev pub holding : ℕ → ℕ → List ℕ → Config
 holding s x counters = record { state = s; held = true ∷ replicate 7 false; values = x ∷ replicate 7 0; counters = counters; lists = replicate 4 [] }
 
 -- two BINDs of one variable fire with one value, and only then; one is added to the state being left
@@ -128,7 +125,7 @@ unfolding fires leave hold start value
 if-fires-later = refl
 
 -- a configuration in state 0 whose first list is l
-abbrev gathering : List ℕ → Config
+abbrev pub gathering : List ℕ → Config
 gathering l = record { state = 0; held = replicate 8 false; values = replicate 8 0; counters = replicate 16 0; lists = l ∷ [] ∷ [] ∷ [] ∷ [] }
 
 -- "a list never gathered is empty": 0, 0, 0
@@ -152,7 +149,7 @@ unfolding fires leave value
 guard-after-gathering = refl
 
 -- a falling guard over a sum: at most 6, with 3 gathered before
-abbrev few : Step
+abbrev pub few : Step
 few = guarded 1 (GATHER 0 0 ∷ []) (ATMOST (LEAF (SUM 0)) (LEAF (CONST 6)))
 
 -- of a rising field: hopeless where the sum would pass the bound, not before
@@ -177,80 +174,6 @@ length-late = refl
 pub different-open : expired (risingField ∷ []) (gathering (3 ∷ [])) (guarded 1 (GATHER 0 0 ∷ []) (LESS (LEAF (DIFFERENT 0)) (LEAF (CONST 2)))) (some 4 ∷ []) ≡ false
 unfolding expired leave value falling rising known
 different-open = refl
-
--- "A TEST, TESTV, BIND or GATHER of an absent field keeps the step from firing", also with unequal
-pub absent-test : fires start (bare 1 (TEST 0 equal 0 ∷ [])) (none ∷ []) ≡ false
-unfolding fires leave hold start
-absent-test = refl
-
-pub absent-unequal : fires start (bare 1 (TEST 0 unequal 5 ∷ [])) (none ∷ []) ≡ false
-unfolding fires leave hold start
-absent-unequal = refl
-
-pub absent-testv : fires start (bare 1 (TESTV 0 equal 0 ∷ [])) (none ∷ []) ≡ false
-unfolding fires leave hold start
-absent-testv = refl
-
-pub absent-bind : fires start (bare 1 (BIND 0 0 ∷ [])) (none ∷ []) ≡ false
-unfolding fires leave hold start
-absent-bind = refl
-
-pub absent-gather : fires start (bare 1 (GATHER 0 0 ∷ [])) (none ∷ []) ≡ false
-unfolding fires leave hold start
-absent-gather = refl
-
--- "where a field has none, a test of it .. doesn't make the step hopeless": below 0 is never, yet hopeless only once a time has arrived
-pub below-none : (c : Config) (t : ℕ) → expired (risingField ∷ []) c (bare t (TEST 0 less 0 ∷ [])) (none ∷ []) ≡ false
-unfolding expired
-below-none c t = refl
-
-pub below-some : (c : Config) (t : ℕ) → expired (risingField ∷ []) c (bare t (TEST 0 less 0 ∷ [])) (some 0 ∷ []) ≡ true
-unfolding expired
-below-some c t = refl
-
--- "or a guard naming a variable or sum that would take its value": bound by the step; held before; in the branch of an IF that is not taken
-abbrev below-zero : Expr
-below-zero = LESS (LEAF (VAR 0)) (LEAF (CONST 0))
-
-pub bound-none : expired (risingField ∷ []) start (guarded 1 (BIND 0 0 ∷ []) below-zero) (none ∷ []) ≡ false
-unfolding expired leave hold start value falling rising known
-bound-none = refl
-
-pub held-none : (s : ℕ) (counters : List ℕ) → expired (risingField ∷ []) (holding s 7 counters) (guarded 1 (BIND 0 0 ∷ []) below-zero) (none ∷ []) ≡ true
-unfolding expired leave hold value falling rising known
-held-none s counters = refl
-
-pub branch-none : expired (risingField ∷ []) start (guarded 1 (BIND 0 0 ∷ []) (IF (LEAF (CONST 1)) (LEAF (CONST 0)) below-zero)) (none ∷ []) ≡ false
-unfolding expired leave hold start value falling rising known
-branch-none = refl
-
-pub branch-some : expired (risingField ∷ []) start (guarded 1 (BIND 0 0 ∷ []) (IF (LEAF (CONST 1)) (LEAF (CONST 0)) below-zero)) (some 3 ∷ []) ≡ true
-unfolding expired leave hold start value falling rising known
-branch-some = refl
-
--- a sum that the step gathers into, and one that it does not; "a length counts the value all the same"
-pub sum-none : expired (risingField ∷ []) (gathering (7 ∷ [])) few (none ∷ []) ≡ false
-unfolding expired leave value falling rising known
-sum-none = refl
-
-pub other-sum : expired (risingField ∷ []) (gathering (7 ∷ [])) (guarded 1 (GATHER 0 1 ∷ []) (ATMOST (LEAF (SUM 0)) (LEAF (CONST 6)))) (none ∷ []) ≡ true
-unfolding expired leave value falling rising known
-other-sum = refl
-
-pub length-none : expired (plain ∷ []) (gathering (3 ∷ [])) (guarded 1 (GATHER 0 0 ∷ []) (LESS (LEAF (LENGTH 0)) (LEAF (CONST 2)))) (none ∷ []) ≡ true
-unfolding expired leave value falling rising known
-length-none = refl
-
--- "judged by the last present value up to n": a time of 600, then an event without one
-abbrev gap : Log
-gap = record { fields = risingField ∷ []; events = record { values = some 600 ∷ [] } ∷ record { values = none ∷ [] } ∷ [] }
-
-abbrev before-600 : Formula
-before-600 = record { tied = []; states = record { kind = ordinary; steps = bare 0 (TEST 0 less 600 ∷ []) ∷ [] } ∷ [] }
-
-pub late-in-gap : expiredAt gap before-600 start 0 1 ≡ true
-unfolding expiredAt expired stepAt stepsOf start latest over eventAt
-late-in-gap = refl
 
 -- the bench's log L and formula F: time and code, trip and open
 abbrev pub L : Log
@@ -285,37 +208,3 @@ no-second-step = refl
 pub no-second-step-expired : expiredAt L F start 1 0 ≡ true
 unfolding expiredAt stepAt stepsOf start
 no-second-step-expired = refl
-
-first : (n : ℕ) → n < 2 → field (latest L n) 0 ≤ field ((eventAt L n) .values) 0
-unfolding latest over eventAt
-first zero h = omega arith
-first (suc zero) h = omega arith
-first (suc (suc n)) h = absurd (omega arith)
-
--- what the machine's laws need holds of L and F
-pub bench-premises : Premises L F
-unfolding final start
-bench-premises = record {
-  recorded =
-      record {
-        some-field = omega arith;
-        most-fields = omega arith;
-        most-events = omega arith;
-        one-per-field = omega arith;
-        values-fit = omega arith;
-        never-falls = rise;
-      };
-  some-state = omega arith;
-  most-states = omega arith;
-  targets = omega arith;
-  open-start = refl;
-}
-  where
-    kinds-differ : plain ≡ risingField → ⊥
-    kinds-differ q = let z : _≡_ {A = ℕ} 0 1 = cc in omega arith
-
-    rise : (n k : ℕ) → n < 2 → getD (L .fields) k plain ≡ risingField → present ((eventAt L n) .values) k ≡ true
-        → field (latest L n) k ≤ field ((eventAt L n) .values) k
-    rise n zero h r p = first n h
-    rise n (suc zero) h r p = absurd (kinds-differ r)
-    rise n (suc (suc k)) h r p = absurd (kinds-differ r)

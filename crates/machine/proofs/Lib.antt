@@ -1,4 +1,6 @@
--- Laws of one step: same configurations, binding, rising and falling, expiry, the machine, examples.
+-- Laws of one step: examples, same configurations, binding, rising and falling, expiry, the machine.
+pub mod Examples
+pub mod Absent
 pub mod Configurations
 pub mod Binding
 pub mod Gathering
@@ -9,7 +11,6 @@ pub mod Along
 pub mod Arrived
 pub mod Carried
 pub mod Walk
-pub mod Examples
 pub mod Agreement
 pub mod Premises
 pub mod AsBefore
