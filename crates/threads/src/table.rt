@@ -7,9 +7,8 @@ ghost use mathlib.Core.Path.{_≡_};
 ghost use mathlib.Core.Bool.{true, cond};
 ghost use Prim.Native.Nat.{_<_};
 ghost use lib.ListN.{length};
-ghost use Rattle.event_log.specs.Event.{together};
 ghost use Rattle.threads.specs.inner.Event.{Seated};
-ghost use Rattle.threads.specs.inner.Setting.{Wide, MarkedBy, MarkedIs};
+ghost use Rattle.threads.specs.inner.Setting.{Wide, MarkedIs};
 
 // The three parts, before an event says anything.
 pub fn widened(steps: &[usize; 128]) -> [usize; 384]
@@ -40,20 +39,23 @@ fn mark_entry(
     i: usize,
     f: &[u8],
     steps: &[usize],
-    rises: &[bool],
-    event: &[u32],
-    arrived: &[bool],
-    latest: &[u32],
-    known: &[bool],
+    rises: [bool; 8],
+    moment: Moment,
 )
     requires { ⌜ (length (now table) ≡ 384) × (i < 128) ⌝ }
-    ensures { λ _. ⌜ MarkedBy (now (f .entry)) (now (steps .entry)) (now (rises .entry)) (together (now (arrived .entry)) (now (event .entry))) (together (now (known .entry)) (now (latest .entry))) (now (table .entry)) (now (table .exit)) ⌝ }
+    ensures { λ _. ⌜ MarkedIs (now (f .entry)) (now (steps .entry)) rises moment (now (table .entry)) (now (table .exit)) ⌝ }
 {
-    let place = machine_code::marks::barred(f, lists::entry(steps, i), event, arrived);
+    let event = moment.event;
+    let values = event.values;
+    let arrived = event.present;
+    let place = machine_code::marks::barred(f, lists::entry(steps, i), &values, &arrived);
     if 0 < place {
+        let latest = moment.latest;
+        let last = latest.values;
+        let known = latest.present;
         table[i] = 0;
         table[128 + i] = unless(
-            machine_code::marks::due(f, place, rises, latest, known),
+            machine_code::marks::due(f, place, &rises, &last, &known),
             table[128 + i],
         );
     }
@@ -71,25 +73,9 @@ fn mark_state(
     requires { ⌜ (length (now table) ≡ 384) × (s < 16) ⌝ }
     ensures { λ _. ⌜ MarkedIs (now (f .entry)) (now (steps .entry)) rises moment (now (table .entry)) (now (table .exit)) ⌝ }
 {
-    let event = moment.event;
-    let values = event.values;
-    let arrived = event.present;
-    let latest = moment.latest;
-    let last = latest.values;
-    let known = latest.present;
     let mut k: usize = 0;
     while k < 8 {
-        mark_entry(
-            table,
-            s * 8 + k,
-            f,
-            steps,
-            &rises,
-            &values,
-            &arrived,
-            &last,
-            &known,
-        );
+        mark_entry(table, s * 8 + k, f, steps, rises, moment);
         k += 1;
     }
 }

@@ -65,12 +65,6 @@ pub record Wide (steps table : List ℕ) : Type 0 where
   pub second : (i : ℕ) → i < 128 → getD table (128 + i) 0 ≡ getD steps i 0
   pub third : (i : ℕ) → i < 128 → getD table (256 + i) 0 ≡ getD steps i 0
 
--- what is told of a step by these values leaves it the table of an event that has them
-abbrev pub MarkedBy : List ℕ → List ℕ → List Bool → Values → Values → List ℕ → List ℕ → Type 0
-MarkedBy f steps rises event latest before after =
-    (length after ≡ length before)
-    × ((m : Moment) → inEvent (m .event) ≡ event → inLatest (m .latest) ≡ latest → EventTable f steps rises m before → EventTable f steps rises m after)
-
 -- what is told of some steps leaves it the event's table
 abbrev pub MarkedIs : List ℕ → List ℕ → List Bool → Moment → List ℕ → List ℕ → Type 0
 MarkedIs f steps rises m before after = (length after ≡ length before) × (EventTable f steps rises m before → EventTable f steps rises m after)
