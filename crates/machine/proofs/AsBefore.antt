@@ -1,4 +1,4 @@
--- On a log without 03 a step fires, and is hopeless, in the words that the paper had before there were absent fields.
+-- On a log without 03 a step fires, and is hopeless, in the words that the paper had before there were absent fields, and a search is answered as it was.
 use Prim.Native.Nat.{ℕ, _<_}
 use mathlib.Core.Path.{_≡_, refl, ap, _∙_}
 use mathlib.Core.Bool.{Bool, true, false, not, _&&_, _||_, cond}
@@ -23,9 +23,9 @@ use Rattle.runs.specs.Machine.{Machine}
 use Rattle.runs.specs.inner.Range.{upto}
 use Rattle.runs.specs.inner.Search.{search}
 use Rattle.runs.proofs.Alike.{search-alike}
-use Rattle.machine.specs.Configuration.{Config, same, start}
+use Rattle.machine.specs.Configuration.{Config, same, start, addOne, addTo}
 use Rattle.machine.specs.Guard.{guardHolds}
-use Rattle.machine.specs.Firing.{holds, valueOf, isHeld, leave, allPass, fires, fire}
+use Rattle.machine.specs.Firing.{holds, valueOf, isHeld, hold, bindAll, gatherAll, leave, allPass, fires, fire}
 use Rattle.machine.specs.Expiry.{rises, firstBind, missed, anyPastDue, guardFalls, arrived, gathersKnown, leafKnown, known, guardKnown, expired}
 use Rattle.machine.specs.Machine.{fireBy, fireAt, expiredBy, expiredAt, committed, final, machine}
 use Rattle.machine.proofs.Walk.{clauses-exist}
@@ -51,9 +51,29 @@ abbrev pub anyPastDueBefore : List Kind → Config → List ℕ → List Clause 
 anyPastDueBefore fields c x [] = false
 anyPastDueBefore fields c x (k ∷ ks) = pastDueBefore fields c x k || anyPastDueBefore fields c x ks
 
+abbrev pub bindAllBefore : Config → List ℕ → List Clause → Config
+bindAllBefore c e [] = c
+bindAllBefore c e (TEST f o x ∷ ks) = bindAllBefore c e ks
+bindAllBefore c e (TESTV f o v ∷ ks) = bindAllBefore c e ks
+bindAllBefore c e (BIND f v ∷ ks) = bindAllBefore (hold c v (getD e f 0)) e ks
+bindAllBefore c e (GATHER f v ∷ ks) = bindAllBefore c e ks
+
+abbrev pub gatherAllBefore : List (List ℕ) → List ℕ → List Clause → List (List ℕ)
+gatherAllBefore ls e [] = ls
+gatherAllBefore ls e (TEST f o x ∷ ks) = gatherAllBefore ls e ks
+gatherAllBefore ls e (TESTV f o v ∷ ks) = gatherAllBefore ls e ks
+gatherAllBefore ls e (BIND f v ∷ ks) = gatherAllBefore ls e ks
+gatherAllBefore ls e (GATHER f v ∷ ks) = gatherAllBefore (addTo ls v (getD e f 0)) e ks
+
 -- what a step leaves, fires by and is hopeless by, on an event with these values
 abbrev pub leaveBefore : Config → Step → List ℕ → Config
-leaveBefore c s e = leave c s (map some e)
+leaveBefore c s e = record {
+  state = s .target;
+  held = (bindAllBefore c e (s .clauses)) .held;
+  values = (bindAllBefore c e (s .clauses)) .values;
+  counters = addOne (c .counters) (c .state);
+  lists = gatherAllBefore (c .lists) e (s .clauses);
+}
 
 abbrev pub fireBefore : Config → Step → List ℕ → Option Config
 fireBefore c s e =
@@ -67,6 +87,24 @@ expiredBefore fields c s x =
 module _ (e : List ℕ) where
   abbrev Reads : List Clause → Type 0
   Reads ks = All (λ (k : Clause). Exists (length e) (CLAUSE k)) ks
+
+  binds-before : (c : Config) (ks : List Clause) → bindAll c (map some e) ks ≡ bindAllBefore c e ks
+  binds-before c [] = refl
+  binds-before c (TEST f o x ∷ ks) = binds-before c ks
+  binds-before c (TESTV f o v ∷ ks) = binds-before c ks
+  binds-before c (BIND f v ∷ ks) = rw (field-some e f) (binds-before (hold c v (getD e f 0)) ks)
+  binds-before c (GATHER f v ∷ ks) = binds-before c ks
+
+  gathers-before : (ls : List (List ℕ)) (ks : List Clause) → gatherAll ls (map some e) ks ≡ gatherAllBefore ls e ks
+  gathers-before ls [] = refl
+  gathers-before ls (TEST f o x ∷ ks) = gathers-before ls ks
+  gathers-before ls (TESTV f o v ∷ ks) = gathers-before ls ks
+  gathers-before ls (BIND f v ∷ ks) = gathers-before ls ks
+  gathers-before ls (GATHER f v ∷ ks) = rw (field-some e f) (gathers-before (addTo ls v (getD e f 0)) ks)
+
+  leaves-before : (c : Config) (s : Step) → leave c s (map some e) ≡ leaveBefore c s e
+  unfolding leave
+  leaves-before c s = rw (binds-before c (s .clauses), gathers-before (c .lists) (s .clauses))
 
   passes-before : (c d : Config) (ks : List Clause) → Reads ks → allPass c d (map some e) ks ≡ allPassBefore c d e ks
   passes-before c d [] r = refl
@@ -133,11 +171,11 @@ module _ (e : List ℕ) where
 
   fire-before : (c : Config) (s : Step) → Reads (s .clauses) → fire c s (map some e) ≡ fireBefore c s e
   unfolding fire fires
-  fire-before c s r = rw (passes-before c (leave c s (map some e)) (s .clauses) r)
+  fire-before c s r = rw (leaves-before c s, passes-before c (leaveBefore c s e) (s .clauses) r)
 
   expired-before : (fields : List Kind) (c : Config) (s : Step) → Reads (s .clauses) → expired fields c s (map some e) ≡ expiredBefore fields c s e
   unfolding expired
-  expired-before fields c s r = rw (due-before fields c (s .clauses) r, guard-known c (s .clauses) r (s .guard))
+  expired-before fields c s r = rw (due-before fields c (s .clauses) r, guard-known c (s .clauses) r (s .guard), leaves-before c s)
 
 -- the machine of a log of 02 alone, by its fields' kinds and its events' values, in the words of before
 abbrev fireByBefore : Option Step → Config → List ℕ → Option Config
