@@ -1,6 +1,6 @@
 -- Laws of one step: examples, same configurations, binding, rising and falling, expiry, the machine.
 pub mod Examples
-pub mod Absent
+pub mod AbsentExamples
 pub mod Configurations
 pub mod Binding
 pub mod Gathering
