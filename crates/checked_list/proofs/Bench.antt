@@ -53,14 +53,14 @@ use Rattle.checked_list.proofs.Exchange.{exchange}
 
 -- every definition on the way from the bytes to an answer: what a case unfolds
 unfoldable pub definitions : Unit {0}
-unfolding readLog LogRead.readFrom draftOf eventsOf falls beyond strays strayAt bitsOf together payloadAt encodePayload nextField nextEvent nextEnd nextCommand encodeField encodeEntry encodeBody bytesOf valueAt
-    valuesFrom pad flatMap readFormula FormulaRead.readFrom FormulaRead.start opcode operatorOf kindOf exprOpcode over exprWith readExpr next assembly assemble
-    firstLeaf firstAbsent firstUnbound judge afterEnd guardCommands stepCommands stateCommands commands encodeExpr encodeClause encodeCommand binds edgesFrom
-    mark round rounds unbound isUnbound Configuration.start same hold leave fires fire stepAt stepsOf eventAt Latest.over Latest.latest fireAt expiredAt
-    committed final accepting Expiry.rising Expiry.falling Expiry.known expired value keep inTurn has distinct lex order firing moves stays unended offers Runs.next endings
-    lesser leastFrom least anyAlive hopeful waiting waitingCount scan origin search slotsOf Search.checked searchAnswer named tiedAlike subsumes subsumed
-    verdict mask noneRow row rowsFrom Analysis.checked analysis ascii digits decimal word spaced variable each held variables details Text.line lineIn lines
-    refusedLine printed
+unfolding readLog LogRead.readFrom draftOf eventsOf falls beyond strays strayAt bitsOf together payloadAt encodePayload nextField nextEvent nextEnd
+    nextCommand encodeField encodeEntry encodeBody bytesOf valueAt valuesFrom pad flatMap readFormula FormulaRead.readFrom FormulaRead.start opcode
+    operatorOf kindOf exprOpcode over exprWith readExpr next assembly assemble firstLeaf firstAbsent firstUnbound judge afterEnd guardCommands stepCommands
+    stateCommands commands encodeExpr encodeClause encodeCommand binds edgesFrom mark round rounds unbound isUnbound Configuration.start same hold leave
+    fires fire stepAt stepsOf eventAt Latest.over Latest.latest fireAt expiredAt committed final accepting Expiry.rising Expiry.falling Expiry.known
+    expired value keep inTurn has distinct lex order firing moves stays unended offers Runs.next endings lesser leastFrom least anyAlive hopeful waiting
+    waitingCount scan origin search slotsOf Search.checked searchAnswer named tiedAlike subsumes subsumed verdict mask noneRow row rowsFrom
+    Analysis.checked analysis ascii digits decimal word spaced variable each held variables details Text.line lineIn lines refusedLine printed
 definitions = tt
 
 -- bytes as the paper writes them, in hexadecimal, with spaces between

@@ -196,7 +196,8 @@ formula-steps-only f fields r reads fm is table n says =
     let e : i / 8 * 8 + i % 8 ≡ i = omega arith in
     let a = says (i / 8) (i % 8) (omega arith) (omega arith) in
     let b = steps .located fm is (i / 8) (i % 8) (omega arith) (omega arith) in
-    subst (λ j. getD table j 0 ≡ getD (r .table) j 0) e (located-only fm (i / 8) (i % 8) (getD table (i / 8 * 8 + i % 8) 0) (getD (r .table) (i / 8 * 8 + i % 8) 0) a b))
+    subst (λ j. getD table j 0 ≡ getD (r .table) j 0) e
+    (located-only fm (i / 8) (i % 8) (getD table (i / 8 * 8 + i % 8) 0) (getD (r .table) (i / 8 * 8 + i % 8) 0) a b))
 
 -- A formula is accepted exactly when it is the encoding of a correct one, and read as that one.
 pub formula-second : (f : List ℕ) (fields : ℕ) (r : FormulaReading) → Bytes f → FormulaAnswer.ReadsFormula f fields r → SecondOfFormula f fields r

@@ -114,23 +114,36 @@ module _ (fields : List Kind) (x : Values) (c : Config) (ks : List Clause) where
   judged (ADD a b) =
       let i = judged a in
       let j = judged b in
-      record { ups = rw (i .ups, j .ups) (shuffle (up a) (sure a) (up b) (sure b)); downs = rw (i .downs, j .downs) (shuffle (down a) (sure a) (down b) (sure b)) }
+      record {
+        ups = rw (i .ups, j .ups) (shuffle (up a) (sure a) (up b) (sure b));
+        downs = rw (i .downs, j .downs) (shuffle (down a) (sure a) (down b) (sure b));
+      }
   judged (SUB a b) =
       let i = judged a in
       let j = judged b in
-      record { ups = rw (i .ups, j .downs) (shuffle (up a) (sure a) (down b) (sure b)); downs = rw (i .downs, j .ups) (shuffle (down a) (sure a) (up b) (sure b)) }
+      record {
+        ups = rw (i .ups, j .downs) (shuffle (up a) (sure a) (down b) (sure b));
+        downs = rw (i .downs, j .ups) (shuffle (down a) (sure a) (up b) (sure b));
+      }
   judged (LESS a b) =
       let i = judged a in
       let j = judged b in
-      record { ups = rw (i .downs, j .ups) (shuffle (down a) (sure a) (up b) (sure b)); downs = rw (i .ups, j .downs) (shuffle (up a) (sure a) (down b) (sure b)) }
+      record {
+        ups = rw (i .downs, j .ups) (shuffle (down a) (sure a) (up b) (sure b));
+        downs = rw (i .ups, j .downs) (shuffle (up a) (sure a) (down b) (sure b));
+      }
   judged (ATMOST a b) =
       let i = judged a in
       let j = judged b in
-      record { ups = rw (i .downs, j .ups) (shuffle (down a) (sure a) (up b) (sure b)); downs = rw (i .ups, j .downs) (shuffle (up a) (sure a) (down b) (sure b)) }
+      record {
+        ups = rw (i .downs, j .ups) (shuffle (down a) (sure a) (up b) (sure b));
+        downs = rw (i .ups, j .downs) (shuffle (up a) (sure a) (down b) (sure b));
+      }
   judged (EQUAL a b) =
       let i = judged a in
       let j = judged b in
-      let both : (rising (kindsIn fields x) c ks a && falling (kindsIn fields x) c ks a) && (rising (kindsIn fields x) c ks b && falling (kindsIn fields x) c ks b)
+      let both : (rising (kindsIn fields x) c ks a && falling (kindsIn fields x) c ks a)
+      && (rising (kindsIn fields x) c ks b && falling (kindsIn fields x) c ks b)
       ≡ ((up a && down a) && (up b && down b)) && (sure a && sure b) =
       rw (i .ups, i .downs, j .ups, j .downs, twice (up a) (down a) (sure a), twice (up b) (down b) (sure b))
       (shuffle (up a && down a) (sure a) (up b && down b) (sure b)) in
@@ -139,11 +152,17 @@ module _ (fields : List Kind) (x : Values) (c : Config) (ks : List Clause) where
   judged (AND a b) =
       let i = judged a in
       let j = judged b in
-      record { ups = rw (i .ups, j .ups) (shuffle (up a) (sure a) (up b) (sure b)); downs = rw (i .downs, j .downs) (shuffle (down a) (sure a) (down b) (sure b)) }
+      record {
+        ups = rw (i .ups, j .ups) (shuffle (up a) (sure a) (up b) (sure b));
+        downs = rw (i .downs, j .downs) (shuffle (down a) (sure a) (down b) (sure b));
+      }
   judged (OR a b) =
       let i = judged a in
       let j = judged b in
-      record { ups = rw (i .ups, j .ups) (shuffle (up a) (sure a) (up b) (sure b)); downs = rw (i .downs, j .downs) (shuffle (down a) (sure a) (down b) (sure b)) }
+      record {
+        ups = rw (i .ups, j .ups) (shuffle (up a) (sure a) (up b) (sure b));
+        downs = rw (i .downs, j .downs) (shuffle (down a) (sure a) (down b) (sure b));
+      }
   judged (IF a b d) =
       let i = judged a in
       let j = judged b in

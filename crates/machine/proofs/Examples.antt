@@ -171,7 +171,8 @@ pub length-late : expired (plain ∷ []) (gathering (3 ∷ [])) (guarded 1 (GATH
 unfolding expired leave value falling rising known
 length-late = refl
 
-pub different-open : expired (risingField ∷ []) (gathering (3 ∷ [])) (guarded 1 (GATHER 0 0 ∷ []) (LESS (LEAF (DIFFERENT 0)) (LEAF (CONST 2)))) (some 4 ∷ []) ≡ false
+pub different-open : expired (risingField ∷ []) (gathering (3 ∷ []))
+    (guarded 1 (GATHER 0 0 ∷ []) (LESS (LEAF (DIFFERENT 0)) (LEAF (CONST 2)))) (some 4 ∷ []) ≡ false
 unfolding expired leave value falling rising known
 different-open = refl
 

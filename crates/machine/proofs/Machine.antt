@@ -93,7 +93,8 @@ valid-bind states c e (TEST f o x ∷ ks) h k = valid-bind states c e ks h k
 valid-bind states c e (TESTV f o v ∷ ks) h k = valid-bind states c e ks h k
 valid-bind states c e (GATHER f v ∷ ks) h k = valid-bind states c e ks h k
 valid-bind states c e (BIND f v ∷ ks) h k =
-    valid-bind states (hold c v (field e f)) e ks (valid-hold states c v (field e f) h (all-getD (λ (y : Option ℕ). orZero y < 4294967296) e f none k (omega arith))) k
+    valid-bind states (hold c v (field e f)) e ks
+    (valid-hold states c v (field e f) h (all-getD (λ (y : Option ℕ). orZero y < 4294967296) e f none k (omega arith))) k
 
 -- what a step leaves is valid
 pub valid-leave : (states : ℕ) (c : Config) (s : Step) (e : Values) → Valid states c → Fits e → states ≤ 16 → s .target < states → Valid states (leave c s e)

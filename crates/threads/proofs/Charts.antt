@@ -108,7 +108,8 @@ module _ (g : Log) (fm : Formula) (f table : List ℕ) (rules : Rules) (s : Sett
           (inEvent (m .event)) p ready c in
           record {
             fires = ap (λ (y : Move). y .fires) e ∙ q;
-            leaves = ap (λ (y : Move). configOf (gatherAll (gathered g fm (trailOf t)) (inEvent (m .event)) (x .clauses)) (y .thread .config)) e ∙ w .leaves-as q;
+            leaves = ap (λ (y : Move). configOf (gatherAll (gathered g fm (trailOf t)) (inEvent (m .event)) (x .clauses)) (y .thread .config)) e
+                ∙ w .leaves-as q;
             same-steps = ap (λ (y : Move). y .thread .steps) e;
             same-trail = ap (λ (y : Move). y .thread .trail) e;
             tallied = ap (λ (y : Move). y .thread .config .tallies) e ∙ w .tallied q;

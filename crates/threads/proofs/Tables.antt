@@ -117,7 +117,8 @@ module _ (g : Log) (fm : Formula) {l places : List ℕ} (f table : List ℕ) (ru
       alive-same (expiresAt f (drop 128 table) (t .config) fresh (rules .rises) (inLatest (m .latest)))
       (expiresAt f (stepTable fm) (t .config) fresh (rules .rises) (inLatest (m .latest))) 8 (omega arith) (expires-same fresh)
       ∙ hopeful-machine g fm (length (g .fields)) f (stepTable fm) (charted g fm f (stepTable fm) rules (s .setting))
-      (gathered g fm (trailOf t)) (t .config) ready (m .number) fresh (inLatest (m .latest)) (carries g fm f table rules m s t w (inLatest (m .latest)) fresh new)
+      (gathered g fm (trailOf t)) (t .config) ready (m .number) fresh (inLatest (m .latest))
+      (carries g fm f table rules m s t w (inLatest (m .latest)) fresh new)
       (latest-fields g fm f (stepTable fm) rules (s .setting) m (s .loads)) (rules .rises)
       (marks g fm f (stepTable fm) rules (s .setting))
 
@@ -164,6 +165,7 @@ module _ (g : Log) (fm : Formula) {l places : List ℕ} (f table : List ℕ) (ru
         go : Firing f (inEvent (m .event)) (offsetOf (stepTable fm) (t .config .state) k) (offsetOf table (t .config .state) k)
             → FiredBy (fireAt g fm (conf g fm t) (m .number) k) t r
         go (stands x) =
-            Base.fires-some g fm f (stepTable fm) rules (s .setting) m (s .loads) t k h fresh (carries g fm f table rules m s t w (inEvent (m .event)) fresh new)
+            Base.fires-some g fm f (stepTable fm) rules (s .setting) m (s .loads) t k h fresh
+            (carries g fm f table rules m s t w (inEvent (m .event)) fresh new)
             ready (λ q. z (x ∙ q)) r (e (offsetOf (stepTable fm) (t .config .state) k) (sym x))
         go (barred x b) = absurd (z x)

@@ -104,7 +104,8 @@ returns c =
     (at .ensures .0 (now (a .table)) (c17 .widened .ensures)) in
     let r =
     searching-found (now (a .l)) (now (a .places)) (now (a .f)) (now (a .table)) (a .scope) (a .start) (a .before) (i .n) (i .half) (i .count) (i .width)
-    (i .work) (i .seen) (i .inv .4) (c13 .if1 .taken) (load .result) (load .ensures) (at .last .0) (at .result) is (c .named .result) (c .before .enum-told .given .1) (i .inv .2)
+    (i .work) (i .seen) (i .inv .4) (c13 .if1 .taken) (load .result) (load .ensures) (at .last .0) (at .result) is (c .named .result)
+    (c .before .enum-told .given .1) (i .inv .2)
     (c .named .ensures) in
     (r .0, (r .1, at .ensures .1 .1 ∙ i .inv .3 ∙ c20 .origin-in .ensures .1))
 
@@ -142,7 +143,8 @@ returns-2 c =
     (at .ensures .0 (now (a .table)) (c17 .widened .ensures)) in
     let r =
     searching-crowded (now (a .l)) (now (a .places)) (now (a .f)) (now (a .table)) (a .scope) (a .start) (a .before) (i .n) (i .half) (i .count) (i .width)
-    (i .work) (i .seen) (i .inv .4) (c13 .if1 .taken) (load .result) (load .ensures) (at .last .0) (at .result) is (c .refused .result) (c .before .enum-told2 .given .1)
+    (i .work) (i .seen) (i .inv .4) (c13 .if1 .taken) (load .result) (load .ensures) (at .last .0) (at .result) is (c .refused .result)
+    (c .before .enum-told2 .given .1)
     (c .refused .ensures) in
     (r .0, (r .1, at .ensures .1 .1 ∙ i .inv .3 ∙ c20 .origin-in .ensures .1))
 
@@ -193,8 +195,9 @@ loop-again c =
     (i .work) (i .seen) (i .inv .4) (c15 .if1 .taken) (load .result) (load .ensures) (at .last .0) (at .result) is (more .0 .0) (c .onward .result) (more .1)
     (c .onward .ensures .0) in
     let carried =
-    subst (Searching (now (a .l)) (now (a .places)) (now (a .f)) (now (a .table)) (a .scope) (a .start) (a .before) (c .onward .result) (1 - i .half) (more .0 .0)
-    (larger .result) (at .last .0)) (sym (ap (λ (m : Moment). m .latest) (c8 .moment-of .ensures))) (rw (larger .ensures) s) in
+    subst
+    (Searching (now (a .l)) (now (a .places)) (now (a .f)) (now (a .table)) (a .scope) (a .start) (a .before) (c .onward .result) (1 - i .half)
+    (more .0 .0) (larger .result) (at .last .0)) (sym (ap (λ (m : Moment). m .latest) (c8 .moment-of .ensures))) (rw (larger .ensures) s) in
     (omega arith, fits, widest, at .ensures .1 .1 ∙ i .inv .3, carried)
 
 no-run-requires : tie.Need-no-run-requires Inv-loop μ-loop

@@ -20,7 +20,8 @@ later-requires c κs = search needs
 
 returns : tie.Need-returns
 returns c =
-    let a = c .before .before .before .before .before .before .args in c .later .ensures ∙ ap (λ (x : Loaded). laterOf (a .seen) (x .event)) (c .before .before .event-at .ensures)
+    let a = c .before .before .before .before .before .before .args in
+    c .later .ensures ∙ ap (λ (x : Loaded). laterOf (a .seen) (x .event)) (c .before .before .event-at .ensures)
 
 pub seen-after-spec : {M : Type 1} → statement M
 seen-after-spec =

@@ -111,4 +111,5 @@ pub record Given (g : Log) (fm : Formula) (l places f table : List ℕ) (scope :
 -- the search's answer, given the last present values before its start
 abbrev pub SearchedFrom : List ℕ → List ℕ → List ℕ → List ℕ → Scope → ℕ → Latest → SearchAnswer → Type 0
 SearchedFrom l places f table scope start seen r =
-    (g : Log) (fm : Formula) → Given g fm l places f table scope → start < scope .events → seen ≡ seenTo l places (scope .rules .fields) start → r ≡ answerOf g fm (Runs.search (machine g fm) (scope .slots) start)
+    (g : Log) (fm : Formula) → Given g fm l places f table scope → start < scope .events → seen ≡ seenTo l places (scope .rules .fields) start
+    → r ≡ answerOf g fm (Runs.search (machine g fm) (scope .slots) start)

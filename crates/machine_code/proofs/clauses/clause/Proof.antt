@@ -43,8 +43,8 @@ meet-requires c κs = search needs
 
 clause-on-requires : tie.Need-clause-on-requires
 clause-on-requires c κs =
-    let a = c .before .before .before .before .before .before .before .before .before .before .before .before .args in
-    omega (arith, ap (λ (w : Walked). w .at) (c .meet .ensures) ∙ meet-at (a .w) _, c .before .before .before .before .before .before .before .before .before .before .before .before .pre)
+    let s = c .before .before .before .before .before .before .before .before .before .before .before .before in
+    omega (arith, ap (λ (w : Walked). w .at) (c .meet .ensures) ∙ meet-at (s .args .w) _, s .pre)
 
 returns : tie.Need-returns
 returns c =
@@ -52,7 +52,8 @@ returns c =
     let c10 = c5 .before .before .before .before .before in
     let a = c10 .before .before .before .args in
     clause-read (now (a .f)) (a .prior) (a .t4) (a .t6) (a .t5) (a .w) (c .before .meet .result) _ (c10 .byte-at .result) (c5 .reading .result)
-    (c5 .before .before .before .mark-of .result) (c .before .before .before .mark-of2 .result) (c .before .before .both .result) (c10 .byte-at .ensures .0) (c5 .before .before .before .mark-of .ensures)
+    (c5 .before .before .before .mark-of .result) (c .before .before .before .mark-of2 .result) (c .before .before .both .result)
+    (c10 .byte-at .ensures .0) (c5 .before .before .before .mark-of .ensures)
     (c5 .reading .ensures) (c .before .before .before .mark-of2 .ensures) (c .before .before .both .ensures) (c .before .meet .ensures) (c .clause-on .ensures)
 
 pub clause-spec : {M : Type 1} → statement M

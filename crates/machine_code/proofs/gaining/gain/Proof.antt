@@ -66,7 +66,8 @@ returns-2 c =
     let k = c9 .before .byte-at2 in
     let present = sym (present-together (a .t7) (a .t6) (k .result)) in
     gain-here (now (a .f)) (a .fresh) (a .t5) (together (a .t7) (a .t6)) (a .place) (a .g) (c12 .byte-at .result) (c12 .byte-at .ensures .0) (k .result)
-    (c9 .byte-at3 .result) (c4 .before .before .reading .result) (c .before .both .result) _ (c9 .before .before .if1 .left) (k .ensures .0) (c9 .byte-at3 .ensures .0)
+    (c9 .byte-at3 .result) (c4 .before .before .reading .result) (c .before .both .result) _ (c9 .before .before .if1 .left) (k .ensures .0)
+    (c9 .byte-at3 .ensures .0)
     (c4 .before .before .reading .ensures)
     (c .before .both .ensures ∙ ap₂ (λ r p. r && p) (c4 .mark-of .ensures) (c .before .before .mark-of2 .ensures ∙ present)) (c .gather .ensures)
 

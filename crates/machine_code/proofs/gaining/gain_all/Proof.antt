@@ -78,7 +78,8 @@ returns c =
     let a = c3 .before .before .args in
     let l = c .before .before .loop in
     gained-from (now (a .f)) (a .fresh) (a .rises) (together (a .there) (a .event)) (a .at) (a .tallies) (c3 .keep .result) _ (c3 .keep .ensures)
-    (left-done (now (a .f)) (a .fresh) (a .rises) (together (a .there) (a .event)) _ (l .place) (l .g) (l .inv) (sym (c .before .is-clause .ensures) ∙ c .if1 .left))
+    (left-done (now (a .f)) (a .fresh) (a .rises) (together (a .there) (a .event)) _ (l .place) (l .g) (l .inv)
+    (sym (c .before .is-clause .ensures) ∙ c .if1 .left))
 
 pub gain-all-spec : {M : Type 1} → statement M
 gain-all-spec =

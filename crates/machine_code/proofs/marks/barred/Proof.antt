@@ -51,7 +51,8 @@ returns-3 c =
     let w = c .before .before .before .width in
     let b = c .before .before .before .before .wide in
     λ n. (
-      silent-here (now (a .f)) (together (now (a .there)) (now (a .event))) (a .at) (l .place) (w .result) (b .result) (b .ensures .0) (w .ensures) (c .before .before .if2 .left)
+      silent-here (now (a .f)) (together (now (a .there)) (now (a .event))) (a .at) (l .place) (w .result) (b .result) (b .ensures .0) (w .ensures)
+          (c .before .before .if2 .left)
           (reached (now (a .f)) (a .at) (l .place) (l .inv .1) (together (now (a .there)) (now (a .event)))) (sym (c .before .fails .ensures) ∙ c .if3 .taken),
       l .inv .1,
     )

@@ -49,8 +49,10 @@ returns-3 c =
     let w = c .before .before .before .width in
     let b = c .before .before .before .before .wide in
     λ e at h.
-    late-here (now (a .f)) (together (now (a .there)) (now (a .latest))) at (l .place) (w .result) (b .result) (b .ensures .0) (w .ensures) (c .before .before .if2 .left)
-    (reached (now (a .f)) at (l .place) (l .inv .1 at h) (together (now (a .there)) (now (a .latest)))) (now (a .rises)) (sym (c .before .misses .ensures) ∙ c .if3 .taken)
+    late-here (now (a .f)) (together (now (a .there)) (now (a .latest))) at (l .place) (w .result) (b .result) (b .ensures .0) (w .ensures)
+    (c .before .before .if2 .left)
+    (reached (now (a .f)) at (l .place) (l .inv .1 at h) (together (now (a .there)) (now (a .latest)))) (now (a .rises))
+    (sym (c .before .misses .ensures) ∙ c .if3 .taken)
 
 add-place : tie.Need-add-place Inv-loop μ-loop
 add-place c =

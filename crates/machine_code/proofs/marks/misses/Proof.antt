@@ -61,7 +61,8 @@ returns-2 c =
     let y = c .before .value-inside in
     misses-read (now (a .f)) (now (a .there)) (now (a .latest)) (a .command) (a .place) (k .result) (k .ensures .0) (c4 .reading .result) (o .result)
     (y .result) (c4 .reading .ensures) (o .ensures .0) (y .ensures) (c8 .before .before .before .if1 .left) (now (a .rises)) (c .missed .result)
-    (sym (ap₂ (λ r p. r && p) (c8 .mark-of .ensures) (c4 .before .before .before .mark-of2 .ensures)) ∙ (sym (c4 .before .before .both .ensures) ∙ c4 .before .if2 .taken))
+    (sym (ap₂ (λ r p. r && p) (c8 .mark-of .ensures) (c4 .before .before .before .mark-of2 .ensures))
+    ∙ (sym (c4 .before .before .both .ensures) ∙ c4 .before .if2 .taken))
     (c .missed .ensures)
 
 returns-3 : tie.Need-returns-3
@@ -69,7 +70,8 @@ returns-3 c =
     let c3 = c .before .before .before in
     let a = c3 .before .before .before .before .before .before .before .before .args in
     let k = c3 .before .wide in
-    misses-plain (now (a .f)) (now (a .there)) (now (a .latest)) (a .command) (a .place) (k .result) (k .ensures .0) (now (a .rises)) (c3 .before .before .before .if1 .left)
+    misses-plain (now (a .f)) (now (a .there)) (now (a .latest)) (a .command) (a .place) (k .result) (k .ensures .0) (now (a .rises))
+    (c3 .before .before .before .if1 .left)
     (sym (ap₂ (λ r p. r && p) (c3 .mark-of .ensures) (c .before .before .mark-of2 .ensures)) ∙ (sym (c .before .both .ensures) ∙ c .if2 .left))
 
 pub misses-spec : {M : Type 1} → statement M

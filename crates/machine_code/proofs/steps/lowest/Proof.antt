@@ -17,7 +17,8 @@ use Rattle.machine_code.proofs.steps.lowest.Statement.{statement}
 use Rattle.machine_code.proofs.steps.lowest.Tie as tie
 
 abbrev Inv-loop : tie.InvT-loop
-Inv-loop f table c fresh fields there prior before counters next k at w₀ w = Walking f prior (replicate 8 false) (together there fields) w₀ w × (w .passes ≡ true)
+Inv-loop f table c fresh fields there prior before counters next k at w₀ w =
+    Walking f prior (replicate 8 false) (together there fields) w₀ w × (w .passes ≡ true)
 
 abbrev μ-loop : tie.MeasureT-loop
 μ-loop f table c fresh fields there prior before counters next k at w₀ w = length f - w .at
@@ -191,7 +192,8 @@ returns : tie.Need-returns Inv-loop μ-loop Inv-steps μ-steps
 returns c =
     let c9 = c .before .before .before .before .before .before .before .before .before .before in
     let a = c9 .args in
-    lowest-last (firesAt (now (a .f)) (now (a .table)) (a .c) (a .fresh) (inEvent (a .event))) (c .before .steps .next) (c .if1 .taken) (c .before .steps .inv .0)
+    lowest-last (firesAt (now (a .f)) (now (a .table)) (a .c) (a .fresh) (inEvent (a .event))) (c .before .steps .next) (c .if1 .taken)
+    (c .before .steps .inv .0)
     (c .before .steps .inv .1)
 
 returns-2 : tie.Need-returns-2 Inv-loop μ-loop Inv-steps μ-steps

@@ -46,7 +46,9 @@ returns-2 c =
     let event = inEvent (a .moment .event) in
     let r : Fired → Move = λ z. record { fires = z .fires; thread = record { config = z .config; steps = a .t .steps; trail = a .t .trail } } in
     λ g fm s h b.
-    fires-some g fm (now (a .f)) (now (a .table)) (a .rules) (a .moment) s (a .t) h (a .k) b (n .result) (n .ensures g fm (a .moment) s (a .t) refl refl refl h (inEvent (a .moment .event)) (event-values g fm (now (a .f)) (stepTable fm) (a .rules) (s .setting) (a .moment) (s .loads)))
+    fires-some g fm (now (a .f)) (now (a .table)) (a .rules) (a .moment) s (a .t) h (a .k) b (n .result)
+    (n .ensures g fm (a .moment) s (a .t) refl refl refl h (inEvent (a .moment .event))
+    (event-values g fm (now (a .f)) (stepTable fm) (a .rules) (s .setting) (a .moment) (s .loads)))
     (λ z. c7 .if1 .left (y .ensures ∙ z)) (r (x .result))
     (λ at q. ap r (x .ensures ∙ ap (λ i. fired (now (a .f)) i d (n .result) event) (y .ensures ∙ sym q)))
 

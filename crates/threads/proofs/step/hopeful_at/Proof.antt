@@ -40,7 +40,9 @@ returns-2 c =
     λ g fm s h.
     c .hopeful .ensures
     ∙ ap (λ x. aliveBelow (expiresAt f x (a .t .config) (n .result) (a .rules .rises) (inLatest (a .moment .latest))) 8) (rest-drop steps 128)
-    ∙ hopeful-here g fm f steps (a .rules) (a .moment) s (a .t) h (n .result) (n .ensures g fm (a .moment) s (a .t) refl refl refl h (inLatest (a .moment .latest)) (latest-values g fm f (stepTable fm) (a .rules) (s .setting) (a .moment) (s .loads)))
+    ∙ hopeful-here g fm f steps (a .rules) (a .moment) s (a .t) h (n .result)
+    (n .ensures g fm (a .moment) s (a .t) refl refl refl h (inLatest (a .moment .latest))
+    (latest-values g fm f (stepTable fm) (a .rules) (s .setting) (a .moment) (s .loads)))
 
 pub hopeful-at-spec : {M : Type 1} → statement M
 hopeful-at-spec =

@@ -41,7 +41,8 @@ returns c =
           subst (Lowest g fm (conf g fm (a .t)) n) (sym e)
           (lowest-found g fm (a .t) n (lowestOf p)
           (lowest-here g fm (now (a .f)) (now (a .table)) (a .rules) (a .moment) s (a .t) h (x .result)
-          (x .ensures g fm (a .moment) s (a .t) refl refl refl h (inEvent (a .moment .event)) (event-values g fm (now (a .f)) (stepTable fm) (a .rules) (s .setting) (a .moment) (s .loads))))),
+          (x .ensures g fm (a .moment) s (a .t) refl refl refl h (inEvent (a .moment .event))
+          (event-values g fm (now (a .f)) (stepTable fm) (a .rules) (s .setting) (a .moment) (s .loads))))),
     )
 
 pub lowest-at-spec : {M : Type 1} → statement M

@@ -51,7 +51,8 @@ mul-unless c = search needs
 
 slice-read-unless : tie.Need-slice-read-unless
 slice-read-unless c =
-    let s = c .before .before .before .before .before .before .before .before .before .before .before .before .before .before .before .before .before .before .before in
+    let entered = c .before .before .before .before .before .before .before .before .before .before .before .before in
+    let s = entered .before .before .before .before .before .before .before in
     omega (arith, length-set (now (s .args .table)) (s .args .i) 0, s .pre)
 
 unless-requires : tie.Need-unless-requires
@@ -65,7 +66,8 @@ mul-table-2 c = search needs
 
 slice-write-table-2 : tie.Need-slice-write-table-2
 slice-write-table-2 c =
-    let s = c .before .before .before .before .before .before .before .before .before .before .before .before .before .before .before .before .before .before .before .before in
+    let entered = c .before .before .before .before .before .before .before .before .before .before .before .before .before in
+    let s = entered .before .before .before .before .before .before .before in
     omega (arith, length-set (now (s .args .table)) (s .args .i) 0, s .pre)
 
 same-length : tie.Need-same-length
