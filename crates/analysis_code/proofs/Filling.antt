@@ -1,7 +1,7 @@
 -- Filling a list from the front, the bits of a mask, and lists written out.
 use Prim.Native.Nat.{ℕ, zero, suc, _+_, _-_, _/_, _%_, _^_, _<_, _≤_}
 use mathlib.Core.Path.{_≡_, ap, sym, _∙_}
-use mathlib.Core.Bool.{Bool, false}
+use mathlib.Core.Bool.{false}
 use mathlib.Core.List.{List, [], _∷_, _++_, append-nil, append-assoc}
 use native.Mathlib.Numerals.{add-one}
 use native.Mathlib.Nat.{add-assoc, pow-succ', div-div-eq-div-mul}
@@ -9,7 +9,7 @@ use native.Mathlib.Omega.{arith}
 use lib.ListN.{length, getD, take, drop, set, drop-of-length-le}
 use lib.Seq.{take-all, take-suc-set}
 use lib.Dec.{eqb}
-use Rattle.base.specs.Mask.{mask, bitsOf}
+use Rattle.base.specs.Mask.{bitsOf}
 use Rattle.base.proofs.Lists.{drop-next}
 
 module _ {A : Type 0} where

@@ -7,7 +7,7 @@ use search::SearchAnswer;
 use search::Verdict;
 use search_code::Scope;
 ghost use mathlib.Core.Path.{_≡_};
-ghost use Prim.Native.Nat.{_+_, _-_, _*_, _≤_, _<_};
+ghost use Prim.Native.Nat.{_+_, _-_, _*_, _≤_};
 ghost use lib.ListN.{length, getD, take, drop};
 ghost use Rattle.base.specs.Mask.{bitsOf};
 ghost use Rattle.analysis.specs.Rows.{tiedAlike, row, subsumed, verdict};

@@ -6,7 +6,7 @@ use mathlib.Core.List.{List, [], _∷_}
 use mathlib.Core.Option.{Option, none, some}
 use lib.Dec.{eqb}
 use Rattle.base.proofs.Tests.{and-end}
-use Rattle.event_log.specs.Log.{Kind, plain, Values, present}
+use Rattle.event_log.specs.Log.{Kind, Values, present}
 use Rattle.formula.specs.Formula.{Clause, TEST, TESTV, BIND, GATHER}
 use Rattle.formula.specs.Formula.{Leaf, CONST, VAR, COUNT, SUM, LENGTH, DIFFERENT, Expr, LEAF, ADD, SUB, LESS, ATMOST, EQUAL, NOT, AND, OR, IF}
 use Rattle.machine.specs.Configuration.{Config}

@@ -10,7 +10,7 @@ use lib.Dec.{eqb}
 use Rattle.base.specs.Lists.{All}
 use Rattle.base.proofs.Lists.{All-at}
 use Rattle.base.proofs.Tests.{and-true, or-right}
-use Rattle.event_log.specs.Log.{Kind, field, Event, Log, eventAt}
+use Rattle.event_log.specs.Log.{Kind, Event, Log, eventAt}
 use Rattle.event_log.specs.File.{logOf}
 use Rattle.event_log.proofs.AsBefore.{plainFile, whole, present-some, field-some, all-present, latest-plain}
 use Rattle.formula.specs.Formula.{Formula, Step, Clause, TEST, TESTV, BIND, GATHER}

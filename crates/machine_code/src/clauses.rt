@@ -5,7 +5,7 @@ use crate::readings::reading;
 use guard_code::guard::value_of;
 use guard_code::trends::mark_of;
 ghost use mathlib.Core.Path.{_≡_};
-ghost use mathlib.Core.Bool.{false, _||_};
+ghost use mathlib.Core.Bool.{_||_};
 ghost use Rattle.event_log.specs.Event.{together};
 ghost use Prim.Native.Nat.{_<_, _+_, _^_};
 ghost use lib.ListN.{getD, length};

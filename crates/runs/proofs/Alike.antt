@@ -1,15 +1,14 @@
 -- Two machines whose steps do the same on every event answer a search alike, whatever their steps would do beyond the last event.
-use mathlib.Core.Path.{_≡_, refl, ap, ap₂, _∙_, fun-ext}
+use mathlib.Core.Path.{_≡_, refl, ap, ap₂, fun-ext}
 use mathlib.Core.Bool.{Bool, not, _&&_, _||_}
 use mathlib.Core.Option.{Option}
 use mathlib.Core.List.{List, map}
-use Prim.Native.Nat.{ℕ, zero, suc, _+_, _-_, _≤_, _<_, max}
+use Prim.Native.Nat.{ℕ, zero, suc, _-_, _≤_, _<_, max}
 use native.Mathlib.Omega.{arith}
-use lib.Dec.{ltb}
 use lib.ListN.{length}
 use Rattle.runs.specs.Machine.{Machine}
 use Rattle.runs.specs.inner.Lists.{only, keep, inTurn, distinct}
-use Rattle.runs.specs.inner.Search.{Thread, begun, arrive, firing, chosen, moves, passesOver, stays, unended, offers, next, ended, endings, lesser, leastFrom, least, anyAlive, hopeful, waiting, waitingCount, overfull, outcome, scan, origin, search}
+use Rattle.runs.specs.inner.Search.{Thread, begun, arrive, firing, chosen, moves, passesOver, stays, unended, offers, next, ended, endings, lesser, leastFrom, least, anyAlive, hopeful, waiting, waitingCount, scan, origin, search}
 
 module _ (M : Machine) where
   open Machine M using (Config, same, start, committed, final, steps, events)
