@@ -6,3 +6,5 @@ pub mod Demand
 pub mod Only
 pub mod Last
 pub mod AsBefore
+pub mod Unmarked
+pub mod Apart

@@ -8,6 +8,8 @@ use native.Mathlib.Nat.{zero-add}
 use native.Mathlib.Omega.{arith}
 use lib.ListN.{length, take, drop}
 use lib.Seq.{drop-drop}
+use lib.Dec.{ltb}
+use borrow.Author.Tests.{ltb-true}
 use Rattle.refusal.specs.declared.Refusal.the-variants.{Crowded}
 use Rattle.event_log.specs.Log.{Log}
 use Rattle.formula.specs.Formula.{Formula}
@@ -80,6 +82,14 @@ module _ (g : Log) (fm : Formula) where
         ap (λ l. record { written = true; rows = l }) (rw e at p ∙ ap (put rows (start * 12)) (q ∙ ap (λ n. row n (named fm c t)) v))
     turn-written tied (absent width) r after fit same e h p = ap (λ l. record { written = true; rows = l }) (rw e at p)
     turn-written tied (crowded n) r after fit same e h p = let z : true ≡ false = rw e at h in let x : _≡_ {A = ℕ} 0 1 = cc in absurd (omega arith)
+
+-- the end kept while a start stands before it, or found anew, is that of the start's stretch
+pub end-here : (start end r e : ℕ) → (start < end → end ≡ e) → r ≡ cond (ltb start end) end e → r ≡ e
+end-here start end r e kept q = go (ltb start end) refl q
+  where
+    go : (b : Bool) → ltb start end ≡ b → r ≡ cond b end e → r ≡ e
+    go true t p = p ∙ kept (ltb-true start end t)
+    go false t p = p
 
 -- a start's answer, as it is told by a test
 pub turn-as : (r b : Bool) (after : List ℕ) (t : Turn) → r ≡ b → record { written = r; rows = after } ≡ t → record { written = b; rows = after } ≡ t

@@ -7,9 +7,12 @@ use search::SearchAnswer;
 use search::Verdict;
 use search_code::Scope;
 ghost use mathlib.Core.Path.{_≡_};
+ghost use mathlib.Core.Bool.{cond};
 ghost use Prim.Native.Nat.{_+_, _-_, _*_, _≤_};
+ghost use lib.Dec.{ltb};
 ghost use lib.ListN.{length, getD, take, drop};
 ghost use Rattle.base.specs.Mask.{bitsOf};
+ghost use Rattle.search_code.specs.inner.Turn.{stretchEnd};
 ghost use Rattle.analysis.specs.Rows.{tiedAlike, row, subsumed, verdict};
 ghost use Rattle.analysis.specs.Call.{Analyses};
 ghost use Rattle.analysis_code.specs.inner.Starts.{namedOf, variables, agrees, runIn, runIf, runsIn, runOf, rowBy, isRefused};
@@ -250,7 +253,18 @@ fn one_start(rows: &mut [u32], tied: [bool; 8], start: usize, answer: SearchAnsw
     true
 }
 
-// Every start in order, up to one that is crowded; the last present values are carried from start to start.
+// Where a start's stretch ends, from the end of the stretch before it or its own: another only where that one is over.
+fn end_at(l: &[u8], places: &[usize; 1024], scope: Scope, start: usize, end: usize) -> usize
+    requires { ⌜ (start ≤ scope .events) × (scope .events ≤ 1024) × (length (now places) ≡ 1024) × (end ≤ scope .events) ⌝ }
+    ensures { λ r. ⌜ (r ≡ cond (ltb start end) end (stretchEnd (now (l .entry)) (now (places .entry)) scope start)) × (r ≤ scope .events) ⌝ }
+{
+    if start < end {
+        return end;
+    }
+    search_code::stretch_end(l, places, scope, start)
+}
+
+// Every start in order, up to one that is crowded; the last present values and the stretch's end are carried from start to start.
 fn all_starts(
     l: &[u8],
     places: &[usize; 1024],
@@ -265,9 +279,11 @@ fn all_starts(
     ensures { λ r. ⌜ AllStarts (now (l .entry)) (now (places .entry)) (now (f .entry)) (now (table .entry)) scope tied (now (rows .entry)) (now (rows .exit)) r ⌝ }
 {
     let mut seen = event_log::none_seen();
+    let mut end: usize = 0;
     let mut start: usize = 0;
     while start < scope.events {
-        let answer = search_code::search_from(l, places, f, table, scope, start, seen, work);
+        end = end_at(l, places, scope, start, end);
+        let answer = search_code::search_from(l, places, f, table, scope, start, end, seen, work);
         if one_start(rows, tied, start, answer) {
             seen = search_code::seen_after(l, places, scope, start, seen);
             start += 1;

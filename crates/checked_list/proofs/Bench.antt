@@ -16,11 +16,11 @@ use Rattle.refusal.specs.Refusals.{line, reportOf}
 use Rattle.refusal.specs.declared.Report.{Report}
 use Rattle.event_log.specs.Log.{plain, rising, eventAt}
 use Rattle.event_log.specs.Latest as Latest
-use Rattle.event_log.specs.File.{full, event, LogFile, eventsOf}
+use Rattle.event_log.specs.File.{full, event, LogFile, eventsFrom, marksOf}
 use Rattle.event_log.specs.Encode.{encodeField, encodePayload, encodeEntry, encodeBody}
 use Rattle.event_log.specs.Event.{valuesFrom, together, payloadAt}
 use Rattle.event_log.specs.Read as LogRead
-use Rattle.event_log.specs.Read.{draftOf, falls, beyond, strays, strayAt, nextField, nextEvent, nextEnd, nextCommand, readLog}
+use Rattle.event_log.specs.Read.{draftOf, falls, beyond, strays, strayAt, nextField, nextEvent, nextMark, nextEnd, nextCommand, readLog}
 use Rattle.formula.specs.Formula.{CONST, LEAF, ADD, SUB}
 use Rattle.formula.specs.Encode.{guardCommands, stepCommands, stateCommands, commands, encodeExpr, encodeClause, encodeCommand}
 use Rattle.formula.specs.Unbound.{stepsOf, binds, edgesFrom, mark, round, rounds, unbound, isUnbound}
@@ -37,7 +37,7 @@ use Rattle.machine.specs.Machine.{fireAt, expiredAt, committed, final, acceptin
 use Rattle.runs.specs.inner.Lists.{keep, inTurn, has, distinct}
 use Rattle.runs.specs.inner.Order.{lex, order}
 use Rattle.runs.specs.inner.Search as Runs
-use Rattle.runs.specs.inner.Search.{firing, moves, stays, unended, offers, endings, lesser, leastFrom, least, anyAlive, hopeful, waiting, waitingCount, scan, origin, search}
+use Rattle.runs.specs.inner.Search.{firing, moves, stays, unended, offers, endings, lesser, leastFrom, least, anyAlive, hopeful, waiting, waitingCount, scan, origin, endFrom, endOf, search}
 use Rattle.search.specs.Search as Search
 use Rattle.search.specs.Search.{slotsOf, without, searchAnswer}
 use Rattle.search.specs.declared.Verdict.{Verdict}
@@ -53,14 +53,15 @@ use Rattle.checked_list.proofs.Exchange.{exchange}
 
 -- every definition on the way from the bytes to an answer: what a case unfolds
 unfoldable pub definitions : Unit {0}
-unfolding readLog LogRead.readFrom draftOf eventsOf falls beyond strays strayAt bitsOf together payloadAt encodePayload nextField nextEvent nextEnd
-    nextCommand encodeField encodeEntry encodeBody bytesOf valueAt valuesFrom pad flatMap readFormula FormulaRead.readFrom FormulaRead.start opcode
-    operatorOf kindOf exprOpcode over exprWith readExpr next assembly assemble firstLeaf firstAbsent firstUnbound judge afterEnd guardCommands stepCommands
-    stateCommands commands encodeExpr encodeClause encodeCommand binds edgesFrom mark round rounds unbound isUnbound Configuration.start same hold leave
-    fires fire stepAt stepsOf eventAt Latest.over Latest.latest fireAt expiredAt committed final accepting Expiry.rising Expiry.falling Expiry.known
-    expired value keep inTurn has distinct lex order firing moves stays unended offers Runs.next endings lesser leastFrom least anyAlive hopeful waiting
-    waitingCount scan origin search slotsOf Search.checked searchAnswer named tiedAlike subsumes subsumed verdict mask noneRow row rowsFrom
-    Analysis.checked analysis ascii digits decimal word spaced variable each held variables details Text.line lineIn lines refusedLine printed
+unfolding readLog LogRead.readFrom draftOf eventsFrom marksOf falls beyond strays strayAt bitsOf together payloadAt encodePayload nextField nextEvent
+    nextMark nextEnd nextCommand encodeField encodeEntry encodeBody bytesOf valueAt valuesFrom pad flatMap readFormula FormulaRead.readFrom
+    FormulaRead.start opcode operatorOf kindOf exprOpcode over exprWith readExpr next assembly assemble firstLeaf firstAbsent firstUnbound judge
+    afterEnd guardCommands stepCommands stateCommands commands encodeExpr encodeClause encodeCommand binds edgesFrom mark round rounds unbound
+    isUnbound Configuration.start same hold leave fires fire stepAt stepsOf eventAt Latest.over Latest.latest fireAt expiredAt committed final
+    accepting Expiry.rising Expiry.falling Expiry.known expired value keep inTurn has distinct lex order firing moves stays unended offers Runs.next
+    endings lesser leastFrom least anyAlive hopeful waiting waitingCount scan origin endFrom endOf search slotsOf Search.checked searchAnswer named
+    tiedAlike subsumes subsumed verdict mask noneRow row rowsFrom Analysis.checked analysis ascii digits decimal word spaced variable each held
+    variables details Text.line lineIn lines refusedLine printed
 definitions = tt
 
 -- bytes as the paper writes them, in hexadecimal, with spaces between

@@ -3,19 +3,22 @@ use Prim.Native.Nat.{ℕ, zero, suc, _+_, _-_, _<_, _≤_}
 use native.Mathlib.Decide.{ℕ-discrete, decLt}
 use native.Mathlib.Nat.{le-refl}
 use native.Mathlib.Omega.{arith}
-use mathlib.Core.Path.{_≡_, refl, sym, ap, subst, _∙_}
-use mathlib.Core.Bool.{true, false≢true}
+use mathlib.Core.Path.{_≡_, refl, sym, ap, ap₂, subst, _∙_}
+use mathlib.Core.Bool.{Bool, true, false, cond, false≢true}
 use mathlib.Core.List.{List, [], _∷_}
 use mathlib.Core.Option.{Option, none, some}
 use lib.ListN.{length, getD}
+use lib.Dec.{eqb}
 use Rattle.base.specs.Lists.{All}
-use Rattle.event_log.specs.Log.{Kind, plain, rising, Values, isThere, orZero, present, field, Event, Log, noEvent, eventAt}
-use Rattle.event_log.specs.File.{valuesOf, Entry, event, LogFile, eventsOf, logOf}
+use Rattle.base.proofs.Lists.{All-at}
+use Rattle.event_log.specs.Log.{Kind, plain, rising, Values, isThere, orZero, present, field, Event, Log, noEvent, eventAt, stretchAt}
+use Rattle.event_log.specs.File.{valuesOf, Entry, event, mark, LogFile, eventsFrom, marksOf, logOf}
 use Rattle.event_log.specs.Encode.{encode}
 use Rattle.event_log.specs.Correct.{Recorded, Correct}
-use Rattle.event_log.specs.Latest.{over, latest}
+use Rattle.event_log.specs.Latest.{over, seeing, latest, latestAt}
 use Rattle.event_log.specs.Read.{readLog, accepted}
-use Rattle.event_log.proofs.LastSeen.{orElse, over-at, own}
+use Rattle.event_log.proofs.LastSeen.{orElse, over-at, own, latest-next, latest-other}
+use Rattle.event_log.proofs.Encoding.{stretch-least}
 use Rattle.event_log.proofs.Accepted.{encoding-is-accepted}
 use Rattle.formula.specs.Formula.{Formula, Step}
 use Rattle.formula.specs.Lookup.{stepAt}
@@ -32,9 +35,18 @@ exchangeAt zero (a ∷ []) = a ∷ []
 exchangeAt zero (a ∷ (b ∷ xs)) = b ∷ (a ∷ xs)
 exchangeAt (suc n) (a ∷ xs) = a ∷ exchangeAt n xs
 
--- the file with its entries n and n + 1 exchanged, and the log with its events n and n + 1 exchanged
+-- entries with events n and n + 1 exchanged, which stand next to each other
+abbrev pub exchangeEvents : ℕ → List Entry → List Entry
+exchangeEvents n [] = []
+exchangeEvents n (mark ∷ es) = mark ∷ exchangeEvents n es
+exchangeEvents zero (event v ∷ []) = event v ∷ []
+exchangeEvents zero (event v ∷ (mark ∷ es)) = event v ∷ (mark ∷ es)
+exchangeEvents zero (event v ∷ (event w ∷ es)) = event w ∷ (event v ∷ es)
+exchangeEvents (suc n) (event v ∷ es) = event v ∷ exchangeEvents n es
+
+-- the file, and the log, with these events exchanged
 abbrev pub exchange : ℕ → LogFile → LogFile
-exchange n t = record { fields = t .fields; entries = exchangeAt n (t .entries) }
+exchange n t = record { fields = t .fields; entries = exchangeEvents n (t .entries) }
 
 abbrev exchanged : ℕ → Log → Log
 exchanged n g = record { fields = g .fields; events = exchangeAt n (g .events) }
@@ -73,22 +85,39 @@ module _ {A : Type 0} where
   All-exchange P zero (a ∷ (b ∷ xs)) h = (h .1 .0, (h .0, h .1 .1))
   All-exchange P (suc n) (a ∷ xs) h = (h .0, All-exchange P n xs (h .1))
 
--- the file with its entries exchanged records the log with its events exchanged
-events-exchanged : (n : ℕ) (es : List Entry) → eventsOf (exchangeAt n es) ≡ exchangeAt n (eventsOf es)
-unfolding eventsOf
-events-exchanged n [] = refl
-events-exchanged zero (event v ∷ []) = refl
-events-exchanged zero (event v ∷ (event w ∷ es)) = refl
-events-exchanged (suc n) (event v ∷ es) = ap (λ x. record { values = valuesOf v } ∷ x) (events-exchanged n es)
+-- the file with its events exchanged records the log with its events exchanged, if no mark stands between them
+events-exchanged : (s n : ℕ) (es : List Entry) → suc n < length (eventsFrom s es)
+    → (getD (eventsFrom s es) n noEvent) .stretch ≡ (getD (eventsFrom s es) (suc n) noEvent) .stretch
+    → eventsFrom s (exchangeEvents n es) ≡ exchangeAt n (eventsFrom s es)
+unfolding eventsFrom
+events-exchanged s n [] h e = absurd (omega arith)
+events-exchanged s n (mark ∷ es) h e = events-exchanged (suc s) n es h e
+events-exchanged s zero (event v ∷ []) h e = refl
+events-exchanged s zero (event v ∷ (event w ∷ es)) h e = refl
+events-exchanged s zero (event v ∷ (mark ∷ es)) h e =
+    let least = All-at (λ (x : Event). suc s ≤ x .stretch) (eventsFrom (suc s) es) 0 noEvent (stretch-least (suc s) es) (omega arith) in
+    absurd (omega (arith, e, least))
+events-exchanged s (suc n) (event v ∷ es) h e = ap (λ x. record { stretch = s; values = valuesOf v } ∷ x) (events-exchanged s n es (omega arith) e)
 
-records-exchanged : (n : ℕ) (t : LogFile) → logOf (exchange n t) ≡ exchanged n (logOf t)
-records-exchanged n t = ap (λ x. record { fields = t .fields; events = x }) (events-exchanged n (t .entries))
+marks-exchanged : (n : ℕ) (es : List Entry) → marksOf (exchangeEvents n es) ≡ marksOf es
+unfolding marksOf
+marks-exchanged n [] = refl
+marks-exchanged n (mark ∷ es) = ap suc (marks-exchanged n es)
+marks-exchanged zero (event v ∷ []) = refl
+marks-exchanged zero (event v ∷ (event w ∷ es)) = refl
+marks-exchanged zero (event v ∷ (mark ∷ es)) = refl
+marks-exchanged (suc n) (event v ∷ es) = marks-exchanged n es
 
--- events n and n + 1 have one time: they have the same fields, and no rising field differs
+-- events n and n + 1 have one time: no mark stands between them, they have the same fields, and no rising field differs
 pub record OneTime (g : Log) (n : ℕ) : Type 0 where
   pub there : suc n < length (g .events)
+  pub unparted : stretchAt g n ≡ stretchAt g (suc n)
   pub both : (k : ℕ) → present ((eventAt g n) .values) k ≡ present ((eventAt g (suc n)) .values) k
   pub same : (k : ℕ) → getD (g .fields) k plain ≡ rising → field ((eventAt g n) .values) k ≡ field ((eventAt g (suc n)) .values) k
+
+records-exchanged : (n : ℕ) (t : LogFile) → OneTime (logOf t) n → logOf (exchange n t) ≡ exchanged n (logOf t)
+unfolding eventAt
+records-exchanged n t o = ap (λ x. record { fields = t .fields; events = x }) (events-exchanged 0 n (t .entries) (o .there) (o .unparted))
 
 rising-kind : (k : Kind) → isRising k ≡ true → k ≡ rising
 rising-kind plain h = absurd (false≢true h)
@@ -156,6 +185,11 @@ module _ (fields : List Kind) (a b x : Values) (both : (k : ℕ) → present a k
       equal (some y) none o e f = refl
       equal (some y) (some z) o e f = f
 
+-- one event more over the values of a stretch
+latest-more : (g : Log) (s m : ℕ) → latest g s (suc m) ≡ seeing s (eventAt g m) (latest g s m)
+unfolding latest
+latest-more g s m = refl
+
 module _ (g : Log) (n : ℕ) (o : OneTime g n) where
   abbrev h : Log
   h = exchanged n g
@@ -166,56 +200,98 @@ module _ (g : Log) (n : ℕ) (o : OneTime g n) where
   abbrev b : Values
   b = (eventAt g (suc n)) .values
 
-  event-first : (eventAt h n) .values ≡ b
-  unfolding eventAt
-  event-first = ap (λ (e : Event). e .values) (first-at n (g .events) noEvent (o .there))
+  abbrev S : ℕ
+  S = stretchAt g n
 
-  event-second : (eventAt h (suc n)) .values ≡ a
+  event-first : eventAt h n ≡ eventAt g (suc n)
   unfolding eventAt
-  event-second = ap (λ (e : Event). e .values) (second-at n (g .events) noEvent (o .there))
+  event-first = first-at n (g .events) noEvent (o .there)
 
-  event-other : (m : ℕ) → (m ≡ n → ⊥) → (m ≡ suc n → ⊥) → (eventAt h m) .values ≡ (eventAt g m) .values
+  event-second : eventAt h (suc n) ≡ eventAt g n
   unfolding eventAt
-  event-other m p q = ap (λ (e : Event). e .values) (other-at n (g .events) noEvent m p q)
+  event-second = second-at n (g .events) noEvent (o .there)
+
+  event-other : (m : ℕ) → (m ≡ n → ⊥) → (m ≡ suc n → ⊥) → eventAt h m ≡ eventAt g m
+  unfolding eventAt
+  event-other m p q = other-at n (g .events) noEvent m p q
+
+  -- every place keeps its stretch
+  stretch-first : stretchAt h n ≡ S
+  stretch-first = ap (λ (e : Event). e .stretch) event-first ∙ sym (o .unparted)
+
+  stretch-second : stretchAt h (suc n) ≡ S
+  stretch-second = ap (λ (e : Event). e .stretch) event-second
+
+  stretch-same : (m : ℕ) → stretchAt h m ≡ stretchAt g m
+  stretch-same m = go (ℕ-discrete m n) (ℕ-discrete m (suc n))
+    where
+      go : Dec (m ≡ n) → Dec (m ≡ suc n) → stretchAt h m ≡ stretchAt g m
+      go (yes e) q = rw e stretch-first
+      go (no x) (yes e) = rw e (stretch-second ∙ o .unparted)
+      go (no x) (no y) = ap (λ (e : Event). e .stretch) (event-other m x y)
 
   rising-same : (k : ℕ) → rises (g .fields) k ≡ true → field a k ≡ field b k
   rising-same k r = o .same k (rising-kind (getD (g .fields) k plain) r)
 
   -- before the two nothing differs; after the first, and after both, nothing by which a step is judged
-  latest-early : (m : ℕ) → m ≤ n → latest h m ≡ latest g m
+  latest-early : (s m : ℕ) → m ≤ n → latest h s m ≡ latest g s m
   unfolding latest
-  latest-early zero i = refl
-  latest-early (suc m) i = rw (event-other m (λ e. omega (arith, e)) (λ e. omega (arith, e)), latest-early m (omega arith))
+  latest-early s zero i = refl
+  latest-early s (suc m) i =
+      ap₂ (seeing s) (event-other m (λ e. omega (arith, e)) (λ e. omega (arith, e))) (latest-early s m (omega arith))
 
-  latest-first : latest h (suc n) ≡ over b (latest g n)
-  unfolding latest
-  latest-first = rw (event-first, latest-early n (le-refl _))
+  latest-first : latest h S (suc n) ≡ over b (latest g S n)
+  latest-first = latest-next h S n stretch-first ∙ ap₂ (λ (e : Event) x. over (e .values) x) event-first (latest-early S n (le-refl _))
 
-  latest-both : latest h (suc (suc n)) ≡ over a (over b (latest g n))
-  unfolding latest
-  latest-both = rw (event-second, event-first, latest-early n (le-refl _))
+  latest-both : latest h S (suc (suc n)) ≡ over a (over b (latest g S n))
+  latest-both = latest-next h S (suc n) stretch-second ∙ ap₂ (λ (e : Event) x. over (e .values) x) event-second latest-first
 
-  late-like : (d : ℕ) → Like (g .fields) (latest h (suc (suc n) + d)) (latest g (suc (suc n) + d))
-  unfolding latest
-  late-like zero =
-      let e : suc (suc n) + 0 ≡ suc (suc n) = omega arith in
-      rw (e, latest-both) (swap-like (g .fields) a b (latest g n) (o .both) rising-same)
-  late-like (suc d) =
-      let e : suc (suc n) + suc d ≡ suc (suc (suc n) + d) = omega arith in
-      let m = suc (suc n) + d in
-      rw (e, event-other m (λ q. omega (arith, q)) (λ q. omega (arith, q)))
-      (over-like (g .fields) ((eventAt g m) .values) (latest h m) (latest g m) (late-like d))
+  own-both : latest g S (suc (suc n)) ≡ over b (over a (latest g S n))
+  own-both = latest-next g S (suc n) (sym (o .unparted)) ∙ ap (over b) (latest-next g S n refl)
 
   like-self : (x : Values) → Like (g .fields) x x
   like-self x = record { there = λ k. refl; same = λ k r. refl }
 
-  -- the values before event m, where m is not the second of the two
-  latest-like : (m : ℕ) → (m ≡ suc n → ⊥) → Like (g .fields) (latest h m) (latest g m)
-  latest-like m q = go (decLt n m)
+  -- after both, of their stretch and of every other
+  pair-like : (s : ℕ) → Like (g .fields) (latest h s (suc (suc n))) (latest g s (suc (suc n)))
+  pair-like s = go (ℕ-discrete S s)
     where
-      go : Dec (n < m) → Like (g .fields) (latest h m) (latest g m)
-      go (yes i) = let e : suc (suc n) + (m - suc (suc n)) ≡ m = omega (arith, q) in rw e at (late-like (m - suc (suc n)))
-      go (no i) = rw (latest-early m (omega arith)) (like-self (latest g m))
+      go : Dec (S ≡ s) → Like (g .fields) (latest h s (suc (suc n))) (latest g s (suc (suc n)))
+      go (yes e) = rw (← e, latest-both, own-both) (swap-like (g .fields) a b (latest g S n) (o .both) rising-same)
+      go (no ne) =
+          let two : latest h s (suc (suc n)) ≡ latest g s n =
+          latest-other h s (suc n) (λ e. ne (sym stretch-second ∙ e)) ∙ latest-other h s n (λ e. ne (sym stretch-first ∙ e)) ∙ latest-early s n (le-refl _) in
+          let own-two : latest g s (suc (suc n)) ≡ latest g s n = latest-other g s (suc n) (λ e. ne (o .unparted ∙ e)) ∙ latest-other g s n ne in
+          rw (two, own-two) (like-self (latest g s n))
+
+  late-like : (s d : ℕ) → Like (g .fields) (latest h s (suc (suc n) + d)) (latest g s (suc (suc n) + d))
+  late-like s zero = let e : suc (suc n) + 0 ≡ suc (suc n) = omega arith in rw e (pair-like s)
+  late-like s (suc d) = rw (e, latest-more h s m, latest-more g s m, here) (go (eqb (stretchAt g m) s) (late-like s d))
+    where
+      m : ℕ
+      m = suc (suc n) + d
+
+      e : suc (suc n) + suc d ≡ suc m
+      e = omega arith
+
+      here : eventAt h m ≡ eventAt g m
+      here = event-other m (λ q. omega (arith, q)) (λ q. omega (arith, q))
+
+      v : Values
+      v = (eventAt g m) .values
+
+      go : (t : Bool) → Like (g .fields) (latest h s m) (latest g s m)
+          → Like (g .fields) (cond t (over v (latest h s m)) (latest h s m)) (cond t (over v (latest g s m)) (latest g s m))
+      go true l = over-like (g .fields) v (latest h s m) (latest g s m) l
+      go false l = l
+
+  -- the values before event m, where m is not the second of the two
+  latest-like : (s m : ℕ) → (m ≡ suc n → ⊥) → Like (g .fields) (latest h s m) (latest g s m)
+  latest-like s m q = go (decLt n m)
+    where
+      go : Dec (n < m) → Like (g .fields) (latest h s m) (latest g s m)
+      go (yes i) = let e : suc (suc n) + (m - suc (suc n)) ≡ m = omega (arith, q) in rw e at (late-like s (m - suc (suc n)))
+      go (no i) = rw (latest-early s m (omega arith)) (like-self (latest g s m))
 
   -- the other order is a log too
   exchanged-recorded : Recorded g → Recorded h
@@ -226,31 +302,43 @@ module _ (g : Log) (n : ℕ) (o : OneTime g n) where
         most-events = rw (length-exchange n (g .events)) (c .most-events);
         one-per-field = All-exchange (λ (e : Event). length (e .values) ≡ length (g .fields)) n (g .events) (c .one-per-field);
         values-fit = All-exchange (λ (e : Event). All (λ (v : Option ℕ). orZero v < 4294967296) (e .values)) n (g .events) (c .values-fit);
-        never-falls = λ m k i r p. rise m k (rw (length-exchange n (g .events)) at i) r p (ℕ-discrete m n) (ℕ-discrete m (suc n));
+        never-falls = λ m k i r p. rise m k (rw (length-exchange n (g .events)) at i) r (ℕ-discrete m n) (ℕ-discrete m (suc n)) p;
+        in-order = λ i j l u.
+            subst (λ x. x ≤ stretchAt h j) (sym (stretch-same i))
+            (subst (λ x. stretchAt g i ≤ x) (sym (stretch-same j)) (c .in-order i j l (rw (length-exchange n (g .events)) at u)));
       }
     where
       marked : (k : Kind) → k ≡ rising → isRising k ≡ true
       marked plain e = let z : _≡_ {A = ℕ} 0 1 = cc in absurd (omega arith)
       marked rising e = refl
 
-      rise : (m k : ℕ) → m < length (g .events) → getD (g .fields) k plain ≡ rising → present ((eventAt h m) .values) k ≡ true
-          → Dec (m ≡ n) → Dec (m ≡ suc n) → field (latest h m) k ≤ field ((eventAt h m) .values) k
-      rise m k i r p (yes e) q =
-          let t : present a k ≡ true =
-          o .both k ∙ ap (λ v. present v k) (sym event-first) ∙ ap (λ j. present ((eventAt h j) .values) k) (sym e) ∙ p in
-          let f = c .never-falls n k (omega (arith, e)) r t in
-          rw (e, latest-early n (le-refl _), event-first) (omega (arith, o .same k r))
-      rise m k i r p (no x) (yes e) =
-          let t : present b k ≡ true =
-          sym (o .both k) ∙ ap (λ v. present v k) (sym event-second) ∙ ap (λ j. present ((eventAt h j) .values) k) (sym e) ∙ p in
-          rw (e, latest-first, event-second, own b (latest g n) k t) (omega (arith, o .same k r))
-      rise m k i r p (no x) (no y) =
-          let l = latest-like m y in
-          let f = c .never-falls m k i r (ap (λ v. present v k) (sym (event-other m x y)) ∙ p) in
-          rw (event-other m x y) (omega (arith, f, l .same k (marked (getD (g .fields) k plain) r)))
+      -- what must hold of event m, if it is x and of stretch s
+      Holds : ℕ → ℕ → ℕ → Event → Type 0
+      Holds m k s x = present (x .values) k ≡ true → field (latest h s m) k ≤ field (x .values) k
+
+      rise : (m k : ℕ) → m < length (g .events) → getD (g .fields) k plain ≡ rising → Dec (m ≡ n) → Dec (m ≡ suc n) → Holds m k (stretchAt h m) (eventAt h m)
+      rise m k i r (yes e) q =
+          subst (λ z. Holds z k (stretchAt h z) (eventAt h z)) (sym e)
+          (subst (λ s. Holds n k s (eventAt h n)) (sym stretch-first) (subst (Holds n k S) (sym event-first)
+          (λ p.
+          let f = c .never-falls n k (omega (arith, e, i)) r (o .both k ∙ p) in
+          rw (latest-early S n (le-refl _)) (omega (arith, f, o .same k r)))))
+      rise m k i r (no x) (yes e) =
+          subst (λ z. Holds z k (stretchAt h z) (eventAt h z)) (sym e)
+          (subst (λ s. Holds (suc n) k s (eventAt h (suc n))) (sym stretch-second) (subst (Holds (suc n) k S) (sym event-second)
+          (λ p.
+          let last : field (latest h S (suc n)) k ≡ field b k = ap (λ v. field v k) latest-first
+          ∙ ap orZero (own b (latest g S n) k (sym (o .both k) ∙ p)) in
+          omega (arith, last, o .same k r))))
+      rise m k i r (no x) (no y) =
+          subst (λ s. Holds m k s (eventAt h m)) (sym (stretch-same m)) (subst (Holds m k (stretchAt g m)) (sym (event-other m x y))
+          (λ p. omega (arith, c .never-falls m k i r p, latest-like (stretchAt g m) m y .same k (marked (getD (g .fields) k plain) r))))
 
 pub exchange-correct : (t : LogFile) (n : ℕ) → Correct t → OneTime (logOf t) n → Correct (exchange n t)
-exchange-correct t n c o = record { recorded = rw (records-exchanged n t) (exchanged-recorded (logOf t) n o (c .recorded)) }
+exchange-correct t n c o = record {
+  recorded = rw (records-exchanged n t o) (exchanged-recorded (logOf t) n o (c .recorded));
+  most-marks = rw (marks-exchanged n (t .entries)) (c .most-marks);
+}
 
 -- event m of g is to every formula, step and configuration that a run reaches what event n of h is: the same steps fire on it, to the same effect,
 -- and the same steps are hopeless after it
@@ -259,31 +347,41 @@ pub record Alike (g : Log) (m : ℕ) (h : Log) (n : ℕ) : Type 0 where
   pub expires : (f : Formula) (states : ℕ) (c : Config) → Valid states c → (k : ℕ) → expiredAt g f c k m ≡ expiredAt h f c k n
 
 alike : (g h : Log) (m n : ℕ) → g .fields ≡ h .fields → (eventAt g m) .values ≡ (eventAt h n) .values
-    → Like (h .fields) (latest g (suc m)) (latest h (suc n)) → Alike g m h n
+    → Like (h .fields) (latestAt g m) (latestAt h n) → Alike g m h n
 unfolding fireAt expiredAt
 alike g h m n p q l = record { fires = λ f c k. rw q; expires = λ f states c v k. go states c v (stepAt f (c .state) k) }
   where
     go : (states : ℕ) (c : Config) → Valid states c → (s : Option Step)
-        → expiredBy (g .fields) s c (latest g (suc m)) ≡ expiredBy (h .fields) s c (latest h (suc n))
+        → expiredBy (g .fields) s c (latestAt g m) ≡ expiredBy (h .fields) s c (latestAt h n)
     go states c v none = refl
-    go states c v (some s) =
-        ap (λ ks. expired ks c s (latest g (suc m))) p ∙ (like-expired (h .fields) (latest g (suc m)) (latest h (suc n)) l states c s v)
+    go states c v (some s) = ap (λ ks. expired ks c s (latestAt g m)) p ∙ (like-expired (h .fields) (latestAt g m) (latestAt h n) l states c s v)
 
 first-alike : (g : Log) (n : ℕ) → OneTime g n → Alike (exchanged n g) n g (suc n)
-unfolding latest
 first-alike g n o =
+    let s = stretchAt g n in
     let x = (eventAt g n) .values in
     let y = (eventAt g (suc n)) .values in
-    alike (exchanged n g) g n (suc n) refl (event-first g n o)
-    (rw (latest-first g n o) (like-back (g .fields) _ _ (last-like (g .fields) x y (latest g n) (o .both))))
+    let one : latestAt (exchanged n g) n ≡ over y (latest g s n) =
+    ap (λ z. latest (exchanged n g) z (suc n)) (stretch-first g n o) ∙ latest-first g n o in
+    let two : latestAt g (suc n) ≡ over y (over x (latest g s n)) =
+    ap (λ z. latest g z (suc (suc n))) (sym (o .unparted)) ∙ own-both g n o in
+    alike (exchanged n g) g n (suc n) refl (ap (λ (e : Event). e .values) (event-first g n o))
+    (rw (one, two) (like-back (g .fields) _ _ (last-like (g .fields) x y (latest g s n) (o .both))))
 
 second-alike : (g : Log) (n : ℕ) → OneTime g n → Alike (exchanged n g) (suc n) g n
-unfolding latest
 second-alike g n o =
+    let s = stretchAt g n in
     let x = (eventAt g n) .values in
     let y = (eventAt g (suc n)) .values in
-    alike (exchanged n g) g (suc n) n refl (event-second g n o)
-    (rw (latest-both g n o) (last-like (g .fields) y x (latest g n) (λ k. sym (o .both k))))
+    let two : latestAt (exchanged n g) (suc n) ≡ over x (over y (latest g s n)) =
+    ap (λ z. latest (exchanged n g) z (suc (suc n))) (stretch-second g n o) ∙ latest-both g n o in
+    alike (exchanged n g) g (suc n) n refl (ap (λ (e : Event). e .values) (event-second g n o))
+    (rw (two, latest-next g s n refl) (last-like (g .fields) y x (latest g s n) (λ k. sym (o .both k))))
+
+other-alike : (g : Log) (n : ℕ) → OneTime g n → (m : ℕ) → (m ≡ n → ⊥) → (m ≡ suc n → ⊥) → Alike (exchanged n g) m g m
+other-alike g n o m p q =
+    alike (exchanged n g) g m m refl (ap (λ (e : Event). e .values) (event-other g n o m p q))
+    (rw (stretch-same g n o m) (latest-like g n o (stretchAt g m) (suc m) (λ e. p (omega (arith, e)))))
 
 -- What the two orders of events n and n + 1 have to do with each other.
 pub record RecordedOrder (t : LogFile) (n : ℕ) : Type 0 where
@@ -300,11 +398,11 @@ pub recorded-order : (t : LogFile) (n : ℕ) → Correct t → OneTime (logOf t)
 recorded-order t n c o =
     let g = logOf t in
     let carried : (m k : ℕ) → Alike (exchanged n g) m g k → Alike (logOf (exchange n t)) m g k = λ
-    m k. subst (λ (x : Log). Alike x m g k) (sym (records-exchanged n t)) in
+    m k. subst (λ (x : Log). Alike x m g k) (sym (records-exchanged n t o)) in
     record {
       one-order = encoding-is-accepted t c;
       other-order = encoding-is-accepted (exchange n t) (exchange-correct t n c o);
       first = carried n (suc n) (first-alike g n o);
       second = carried (suc n) n (second-alike g n o);
-      others = λ m h p q. carried m m (alike (exchanged n g) g m m refl (event-other g n o m p q) (latest-like g n o (suc m) (λ e. p (omega (arith, e)))));
+      others = λ m h p q. carried m m (other-alike g n o m p q);
     }

@@ -3,3 +3,4 @@ pub mod Bench
 pub mod Exchange
 pub mod Bounces
 pub mod AbsentFields
+pub mod ClockMarks

@@ -1,26 +1,26 @@
 -- The first and the second demand on files: whatever meets the contract of `read_log` or `read_formula` tells a refusal by file, number and place,
 -- and accepts exactly the encodings of correct logs and formulas, each read as the one that it encodes.
-use Prim.Native.Nat.{ℕ, suc, _+_, _*_, _/_, _%_, _<_, _≤_}
+use Prim.Native.Nat.{ℕ, _+_, _*_, _/_, _%_, _<_, _≤_}
 use mathlib.Core.Path.{_≡_, refl, sym, ap, subst, _∙_}
 use mathlib.Core.Bool.{true}
 use mathlib.Core.List.{List, [], _∷_, _++_, flatMap, append-assoc}
 use native.Mathlib.Omega.{arith}
 use borrow.Author.Tests.{eqb-true, eq-eqb}
 use lib.Dec.{eqb}
-use native.Mathlib.Nat.{le-of-lt}
-use lib.ListN.{length, getD, take, drop, take-append-drop}
-use lib.Seq.{length-take-le, ext-getD}
+use lib.ListN.{length, getD}
+use lib.Seq.{ext-getD}
 use Rattle.base.specs.Lists.{Bytes}
 use Rattle.refusal.specs.declared.Refusal.{Refusal}
 use Rattle.refusal.specs.declared.Refusal.the-variants.{AbsentState}
 use Rattle.refusal.specs.declared.Acceptance.the-variants as FileIs
 use Rattle.refusal.specs.Refusals.{reportOf}
 use Rattle.event_log.specs.declared.LogReading.{LogReading}
-use Rattle.event_log.specs.File.{event, LogFile, eventsOf, logOf}
+use Rattle.event_log.specs.Log.{Event}
+use Rattle.event_log.specs.File.{event, LogFile, eventsFrom, eventsOf, marksOf, logOf}
 use Rattle.event_log.specs.Encode as LogEncode
 use Rattle.event_log.specs.Read as LogRead
 use Rattle.event_log.proofs.Encoding.{at-entry, events-append}
-use Rattle.event_log.proofs.Places.{length-entries, payloadOf, payload-values, entry-split, table-place}
+use Rattle.event_log.proofs.Places.{file-standing, event-is, table-place}
 use Rattle.event_log.proofs.Accepted as LogLaws
 use Rattle.event_log.proofs.Answers.{log-taken}
 use Rattle.event_log.proofs.Refusals.{LogRefusal, log-refusal}
@@ -119,25 +119,24 @@ module _ (l : List ℕ) (r : LogReading) (reads : LogRead.ReadsLog l r) where
   log-answer : (t : LogFile) → IsLog l t → r ≡ LogRead.answerOf (LogRead.accepted t)
   log-answer t is = reads ∙ ap LogRead.answerOf (ap LogRead.readLog (is .encoded) ∙ LogLaws.encoding-is-accepted t (is .correct))
 
--- event n stands behind the fields and the n events before it
+-- event n stands behind the fields and all events and marks before it
 log-recorded : (l : List ℕ) (t : LogFile) → IsLog l t → (n : ℕ) → n < length ((logOf t) .events) → Recorded l t n
 unfolding LogEncode.encodeBody
 log-recorded l t is n h =
-    let es = t .entries in
-    let inside : n < length es = omega (arith, length-entries es) in
-    let split : es ≡ take n es ++ (event (payloadOf t n) ∷ drop (suc n) es) = entry-split t n h in
-    let before = take n es in
-    let e = is .encoded ∙ at-entry t before (event (payloadOf t n)) (drop (suc n) es) split in
+    let x = file-standing t n h in
+    let here = event-is t n (is .correct) h in
+    let rest = event (x .sent) ∷ x .behind in
+    let whole = is .correct .recorded .one-per-field in
     record {
-      before = before;
-      sent = payloadOf t n;
-      values = payload-values t n h;
-      behind = flatMap LogEncode.encodeEntry (drop (suc n) es) ++ (0 ∷ []);
-      count = length-entries before ∙ length-take-le n es (le-of-lt inside);
+      before = x .before;
+      sent = x .sent;
+      values = ap (λ (e : Event). e .values) (sym here);
+      marks = ap (λ (e : Event). e .stretch) (sym here);
+      behind = flatMap LogEncode.encodeEntry (x .behind) ++ (0 ∷ []);
+      count = x .count;
       whole =
-          all-left _ (eventsOf before) (eventsOf (drop n es))
-          (rw (← events-append before (drop n es), take-append-drop n es) (is .correct .recorded .one-per-field));
-      stands = rw append-assoc at e;
+          all-left _ (eventsOf (x .before)) (eventsFrom (0 + marksOf (x .before)) rest) (rw (← events-append 0 (x .before) rest, ← x .split) whole);
+      stands = rw append-assoc at (is .encoded ∙ at-entry t (x .before) (event (x .sent)) (x .behind) (x .split));
     }
 
 -- A log is accepted exactly when it is the encoding of a correct one, and read as that one, its events in recorded order.

@@ -13,8 +13,8 @@ use Rattle.refusal.specs.declared.Acceptance.{Acceptance}
 use Rattle.refusal.specs.declared.Acceptance.the-variants as FileIs
 use Rattle.refusal.specs.Refusals.{reportOf, NotCrowded}
 use Rattle.event_log.specs.declared.LogReading.{LogReading}
-use Rattle.event_log.specs.Log.{Event, Log, eventAt}
-use Rattle.event_log.specs.File.{Payload, valuesOf, Entry, event, LogFile, eventsOf, logOf}
+use Rattle.event_log.specs.Log.{Event, Log, eventAt, stretchAt}
+use Rattle.event_log.specs.File.{Payload, valuesOf, Entry, event, LogFile, eventsOf, marksOf, logOf}
 use Rattle.event_log.specs.Correct as LogCorrect
 use Rattle.event_log.specs.Encode as LogEncode
 use Rattle.event_log.specs.Event.{eventPlace}
@@ -144,13 +144,14 @@ pub record SomeFormula (fields : ℕ) (f : List ℕ) : Type 0 where
   pub formula : Formula
   pub is : IsFormula fields f formula
 
--- event n of the log is the n-th EVENT command of the file, 02 or 03, from 0: behind all FIELDs and n EVENTs, whatever its values; what it sends are the
--- event's values, none for an absent field
+-- event n of the log is the n-th EVENT command of the file, 02 or 03, from 0: behind all FIELDs, n EVENTs and some clock marks, whatever its values; what it
+-- sends are the event's values, none for an absent field, and the marks before it tell its stretch: "Event numbers" run through the whole log
 pub record Recorded (l : List ℕ) (t : LogFile) (n : ℕ) : Type 0 where
   pub before : List Entry
   pub sent : Payload
   pub behind : List ℕ
   pub values : valuesOf sent ≡ (eventAt (logOf t) n) .values
+  pub marks : marksOf before ≡ stretchAt (logOf t) n
   pub count : length (eventsOf before) ≡ n
   pub whole : All (λ (e : Event). length (e .values) ≡ length (t .fields)) (eventsOf before)
   pub stands : l ≡ flatMap LogEncode.encodeField (t .fields)
@@ -196,7 +197,8 @@ pub record SaysCrowded (s : SearchAnswer) : Type 0 where
   pub says : s .verdict ≡ SearchIs.Refused (Crowded place)
 
 -- THIRD DEMAND, SEARCH: "at any event of an accepted log, with one seat or more". A log, a formula, so many seats, a start below the event
--- count.
+-- count. Runs (`Run`) and what waits (`Count`) are of all events of the log: "No run has events on both sides of a mark, and no configuration waits
+-- across one" is a line of each.
 module _ (g : Log) (fm : Formula) (seats start : ℕ) where
   -- "after some event from there on more configurations wait than there are seats and no run has ended by then"
   pub record SomeCrowded : Type 0 where

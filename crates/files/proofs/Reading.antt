@@ -28,11 +28,11 @@ module _ (l f : List ℕ) where
     both-read fm e = rw (log-read, e)
 
   -- both files are accepted, so each of them is
-  record Both (t : LogFile) (fm : Formula) : Type 0 where
+  pub record Both (t : LogFile) (fm : Formula) : Type 0 where
     pub log-read : LogRead.readLog l ≡ LogRead.accepted t
     pub formula-read : FormulaRead.readFormula (length (t .fields)) f ≡ FormulaRead.accepted fm
 
-  each : (t : LogFile) (fm : Formula) → readFiles l f ≡ accepted t fm → Both t fm
+  pub each : (t : LogFile) (fm : Formula) → readFiles l f ≡ accepted t fm → Both t fm
   each t fm = go (LogRead.readLog l) refl
     where
       then : (u : LogFile) → LogRead.readLog l ≡ LogRead.accepted u → (y : FormulaRead.Reading) → FormulaRead.readFormula (length (u .fields)) f ≡ y

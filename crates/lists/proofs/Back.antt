@@ -154,7 +154,7 @@ module _ (log : Log) (formula : Formula) (b places : List ℕ) (f table : List �
   -- what is loaded has the event's fields
   loaded-fields : (n : ℕ) → n < length (log .events) → (g : ℕ)
       → getD ((loadedAt b (length (log .fields)) (getD places n 0)) .event .values) g 0 ≡ field ((eventAt log n) .values) g
-  loaded-fields n h g = ap (λ (e : Event). getD (e .values) g 0) (leads n h) ∙ value-shown ((eventAt log n) .values) (widths n h) g
+  loaded-fields n h g = ap (λ (e : Event). getD (e .values) g 0) (leads .loads n h) ∙ value-shown ((eventAt log n) .values) (widths n h) g
 
   -- one word of the trail
   word-holds : (p : Standing) (w : ℕ) (l : List ℕ) → w / 8 < length (log .events) → ((v : ℕ) → v < 4 → length (listOf (p .lists) v) < 32) → Holds (p .lists) l

@@ -1,6 +1,6 @@
 // Runs the log reader on the bench's log L, cut at every byte and with every byte set to 0, 1, 2, 4 and 255, on a log that lacks
-// a time, cut and with every byte set to these and 3, and on small logs with absent fields, and prints each answer: the file, number
-// and place of a refusal, or an accepted log's numbers of fields and events.
+// a time, cut and with every byte set to these and 3, and on small logs with absent fields and with marks, and prints each answer:
+// the file, number and place of a refusal, or an accepted log's numbers of fields and events.
 use libc::STDOUT_FILENO;
 use refusal::Acceptance;
 
@@ -146,9 +146,53 @@ fn show_falls() {
     show(b"\x01\x01\x02\x00\x00\x00\x05\x03\x03\x00\x00\x00\x04\x00");
 }
 
+// Marks: alone, before the FIELDs, before a FIELD, twice behind the last event.
+fn show_marks() {
+    show(b"\x01\x00\x04\x00");
+    show(b"\x04\x01\x00\x00");
+    show(b"\x01\x00\x04\x01\x00\x00");
+    show(b"\x01\x00\x02\x00\x00\x00\x01\x04\x04\x00");
+}
+
+// A rising field begins afresh behind a mark, but may not fall from there; an event without it between.
+fn show_afresh() {
+    show(
+        b"\x01\x01\
+        \x02\x00\x00\x00\x05\x04\x02\x00\x00\x00\x04\
+        \x00",
+    );
+    show(
+        b"\x01\x01\
+        \x02\x00\x00\x00\x05\x04\x02\x00\x00\x00\x04\x02\x00\x00\x00\x03\
+        \x00",
+    );
+    show(
+        b"\x01\x01\
+        \x02\x00\x00\x00\x05\x04\x03\x00\x00\x00\x00\x00\x02\x00\x00\x00\x04\
+        \x00",
+    );
+}
+
+// 64 marks, and one more.
+fn show_most() {
+    let mut most = [4u8; 67];
+    most[0] = 1;
+    most[1] = 0;
+    most[66] = 0;
+    show(&most);
+    let mut more = [4u8; 68];
+    more[0] = 1;
+    more[1] = 0;
+    more[67] = 0;
+    show(&more);
+}
+
 fn main() {
     show_bench();
     show_lacking();
     show_bits();
     show_falls();
+    show_marks();
+    show_afresh();
+    show_most();
 }

@@ -82,7 +82,7 @@ length-none = refl
 
 -- "judged by the last present value up to n": a time of 600, then an event without one
 abbrev gap : Log
-gap = record { fields = risingField ∷ []; events = record { values = some 600 ∷ [] } ∷ record { values = none ∷ [] } ∷ [] }
+gap = record { fields = risingField ∷ []; events = record { stretch = 0; values = some 600 ∷ [] } ∷ record { stretch = 0; values = none ∷ [] } ∷ [] }
 
 abbrev before-600 : Formula
 before-600 = record { tied = []; states = record { kind = ordinary; steps = bare 0 (TEST 0 less 600 ∷ []) ∷ [] } ∷ [] }
@@ -90,3 +90,11 @@ before-600 = record { tied = []; states = record { kind = ordinary; steps = bare
 pub late-in-gap : expiredAt gap before-600 start 0 1 ≡ true
 unfolding expiredAt expired stepAt stepsOf start latest over eventAt
 late-in-gap = refl
+
+-- behind a clock mark that time is not the last present one: nothing is known, and the step is not hopeless
+abbrev set-between : Log
+set-between = record { fields = risingField ∷ []; events = record { stretch = 0; values = some 600 ∷ [] } ∷ record { stretch = 1; values = none ∷ [] } ∷ [] }
+
+pub open-behind-mark : expiredAt set-between before-600 start 0 1 ≡ false
+unfolding expiredAt expired stepAt stepsOf start latest over eventAt
+open-behind-mark = refl

@@ -1,6 +1,6 @@
 -- On a log without 03 a step fires, and is hopeless, in the words that the paper had before there were absent fields, and a search is answered as it was.
-use Prim.Native.Nat.{ℕ, _<_}
-use mathlib.Core.Path.{_≡_, refl, ap, _∙_}
+use Prim.Native.Nat.{ℕ, suc, _<_}
+use mathlib.Core.Path.{_≡_, refl, ap, ap₂, fun-ext, _∙_}
 use mathlib.Core.Bool.{Bool, true, false, not, _&&_, _||_, cond}
 use mathlib.Core.List.{List, [], _∷_, map}
 use mathlib.Core.Option.{Option, none, some}
@@ -10,8 +10,9 @@ use lib.Dec.{eqb}
 use Rattle.base.specs.Lists.{All}
 use Rattle.base.proofs.Lists.{All-at}
 use Rattle.base.proofs.Tests.{and-true, or-right}
-use Rattle.event_log.specs.Log.{Kind, Event, Log, eventAt}
+use Rattle.event_log.specs.Log.{Kind, Event, Log, eventAt, stretchAt}
 use Rattle.event_log.specs.File.{logOf}
+use Rattle.event_log.specs.Latest.{latest, latestAt}
 use Rattle.event_log.proofs.AsBefore.{plainFile, whole, present-some, field-some, all-present, latest-plain}
 use Rattle.formula.specs.Formula.{Formula, Step, Clause, TEST, TESTV, BIND, GATHER}
 use Rattle.formula.specs.Formula.{Leaf, CONST, VAR, COUNT, SUM, LENGTH, DIFFERENT, Expr, LEAF, ADD, SUB, LESS, ATMOST, EQUAL, NOT, AND, OR, IF}
@@ -20,7 +21,6 @@ use Rattle.formula.specs.Correct.{Correct, Exists}
 use Rattle.formula.specs.Lookup.{stepAt}
 use Rattle.formula.proofs.Steps.{right-step}
 use Rattle.runs.specs.Machine.{Machine}
-use Rattle.runs.specs.inner.Range.{upto}
 use Rattle.runs.specs.inner.Search.{search}
 use Rattle.runs.proofs.Alike.{search-alike}
 use Rattle.machine.specs.Configuration.{Config, same, start, addOne, addTo}
@@ -186,8 +186,8 @@ abbrev expiredByBefore : List Kind → Option Step → Config → List ℕ → B
 expiredByBefore fields none c x = true
 expiredByBefore fields (some s) c x = expiredBefore fields c s x
 
-abbrev pub machineBefore : List Kind → List (List ℕ) → Formula → Machine
-machineBefore ks vs fm = record {
+abbrev spanning : List Kind → List (List ℕ) → Formula → (ℕ → ℕ) → ℕ → Machine
+spanning ks vs fm stretch events = record {
   Config = Config;
   same = same;
   start = start;
@@ -196,13 +196,22 @@ machineBefore ks vs fm = record {
   fire = λ c n k. fireByBefore (stepAt fm (c .state) k) c (getD vs n []);
   expired = λ c k n. expiredByBefore ks (stepAt fm (c .state) k) c (getD vs n []);
   steps = 8;
-  events = length vs;
+  stretch = stretch;
+  events = events;
 }
+
+-- all in one stretch
+abbrev pub machineBefore : List Kind → List (List ℕ) → Formula → Machine
+machineBefore ks vs fm = spanning ks vs fm (λ n. 0) (length vs)
 
 -- A log of 02 alone, and a formula that is correct against it
 module _ (ks : List Kind) (vs : List (List ℕ)) (fm : Formula) (one : All (λ (v : List ℕ). length v ≡ length ks) vs) (right : Correct (length ks) fm) where
   abbrev log : Log
   log = record { fields = ks; events = map whole vs }
+
+  one-stretch : (n : ℕ) → stretchAt log n ≡ 0
+  unfolding eventAt
+  one-stretch n = ap (λ (e : Event). e .stretch) (List·getD-map whole vs n [])
 
   -- on every event each step fires as before, and is judged as before: by that event's values
   module _ (n : ℕ) (h : n < length vs) where
@@ -227,9 +236,12 @@ module _ (ks : List Kind) (vs : List (List ℕ)) (fm : Formula) (one : All (λ (
         go none e = refl
         go (some t) e = fire-before values c t (reads (c .state) k t e)
 
+    seen-is : latestAt log n ≡ map some values
+    seen-is = ap (λ s. latest log s (suc n)) (one-stretch n) ∙ latest-plain ks vs one n h
+
     pub expires-before : (c : Config) (k : ℕ) → expiredAt log fm c k n ≡ expiredByBefore ks (stepAt fm (c .state) k) c values
     unfolding expiredAt
-    expires-before c k = rw (latest-plain ks vs one n h) (go (stepAt fm (c .state) k) refl)
+    expires-before c k = rw seen-is (go (stepAt fm (c .state) k) refl)
       where
         go : (o : Option Step) → stepAt fm (c .state) k ≡ o → expiredBy ks o c (map some values) ≡ expiredByBefore ks o c values
         go none e = refl
@@ -242,4 +254,4 @@ module _ (ks : List Kind) (vs : List (List ℕ)) (fm : Formula) (one : All (λ (
       (search-alike (machine log fm) (machineBefore ks vs fm .fire) (machineBefore ks vs fm .expired)
       (λ c n k h. fires-before n (omega (arith, h, length-map vs whole)) c k)
       (λ c k n h. expires-before n (omega (arith, h, length-map vs whole)) c k) slots i
-      ∙ ap (λ e. search (upto (machineBefore ks vs fm) e) slots i) (length-map vs whole))
+      ∙ ap₂ (λ s e. search (spanning ks vs fm s e) slots i) (fun-ext one-stretch) (length-map vs whole))

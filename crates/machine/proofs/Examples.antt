@@ -178,7 +178,10 @@ different-open = refl
 
 -- the bench's log L and formula F: time and code, trip and open
 abbrev pub L : Log
-L = record { fields = risingField ∷ plain ∷ []; events = record { values = some 500 ∷ some 1 ∷ [] } ∷ record { values = some 500 ∷ some 2 ∷ [] } ∷ [] }
+L = record {
+  fields = risingField ∷ plain ∷ [];
+  events = record { stretch = 0; values = some 500 ∷ some 1 ∷ [] } ∷ record { stretch = 0; values = some 500 ∷ some 2 ∷ [] } ∷ [];
+}
 
 abbrev pub F : Formula
 F = record {

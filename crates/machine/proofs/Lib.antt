@@ -14,3 +14,5 @@ pub mod Walk
 pub mod Agreement
 pub mod Premises
 pub mod AsBefore
+pub mod Unmarked
+pub mod Alone

@@ -13,9 +13,9 @@ use borrow.Author.Tests.{eqb-true, eqb-false}
 use Rattle.base.proofs.Lists.{replicate-at}
 use Rattle.formula.proofs.Steps.{all-some}
 use Rattle.base.specs.Lists.{All}
-use Rattle.event_log.specs.Log.{Kind, plain, rising, Values, orZero, field, Event, Log, noEvent, eventAt}
+use Rattle.event_log.specs.Log.{Kind, plain, rising, Values, orZero, field, Event, Log, noEvent, eventAt, stretchAt}
 use Rattle.event_log.specs.Correct.{Recorded}
-use Rattle.event_log.specs.Latest.{latest}
+use Rattle.event_log.specs.Latest.{latest, latestAt}
 use Rattle.event_log.proofs.LastSeen.{latest-own, latest-stays, latest-grows}
 use Rattle.formula.specs.Formula.{Formula, State, ordinary, Step, Clause, TEST, TESTV, BIND, GATHER}
 use Rattle.formula.specs.Unbound.{stepsOf}
@@ -162,12 +162,15 @@ module _ (log : Log) (formula : Formula) (P : Premises log formula) where
   rising-kind plain h = absurd (false≢true h)
   rising-kind rising h = refl
 
-  -- the values by which a step is judged grow from event to event
-  grow-to : (n m : ℕ) → n ≤ m → m ≤ length (log .events) → Grows (log .fields) (latest log n) (latest log m)
-  grow-to n m h k = record {
-    stays = λ f. latest-stays log n m f h;
-    larger = λ f r. latest-grows log (P .recorded) f (rising-kind (getD (log .fields) f plain) r) n m h k;
+  -- the values by which a step is judged grow from event to event, within a stretch
+  grow-to : (s n m : ℕ) → n ≤ m → m ≤ length (log .events) → Grows (log .fields) (latest log s n) (latest log s m)
+  grow-to s n m h k = record {
+    stays = λ f. latest-stays log s n m f h;
+    larger = λ f r. latest-grows log (P .recorded) f (rising-kind (getD (log .fields) f plain) r) s n m h k;
   }
+
+  seen-grows : (n m : ℕ) → stretchAt log n ≡ stretchAt log m → n ≤ m → m < length (log .events) → Grows (log .fields) (latestAt log n) (latestAt log m)
+  seen-grows n m e h j = rw e (grow-to (stretchAt log m) (suc n) (suc m) (omega arith) (omega arith))
 
   target-declared : (s k : ℕ) (t : Step) → stepAt formula s k ≡ some t → t .target < length (formula .states)
   unfolding stepAt stepsOf
@@ -184,30 +187,27 @@ module _ (log : Log) (formula : Formula) (P : Premises log formula) where
       (all-getD (λ (e : Event). Fits (e .values)) (log .events) n noEvent (P .recorded .values-fit) tt) (P .most-states)
       (target-declared (c .state) k (f .step) (f .found)))
 
-  -- a step expired after n is expired after every later event
-  pub stable : (c : Config) (k n m : ℕ) → Valid (length (formula .states)) c → n ≤ m → m < length (log .events) → expiredAt log formula c k n ≡ true
-      → expiredAt log formula c k m ≡ true
+  -- a step expired after n is expired after every later event of its stretch
+  pub stable : (c : Config) (k n m : ℕ) → Valid (length (formula .states)) c → stretchAt log n ≡ stretchAt log m → n ≤ m → m < length (log .events)
+      → expiredAt log formula c k n ≡ true → expiredAt log formula c k m ≡ true
   unfolding expiredAt
-  stable c k n m v h j e = go (stepAt formula (c .state) k) e
+  stable c k n m v s h j e = go (stepAt formula (c .state) k) e
     where
-      grows : Grows (log .fields) (latest log (suc n)) (latest log (suc m))
-      grows = grow-to (suc n) (suc m) (omega arith) (omega arith)
-
-      go : (o : Option Step) → expiredBy (log .fields) o c (latest log (suc n)) ≡ true → expiredBy (log .fields) o c (latest log (suc m)) ≡ true
+      go : (o : Option Step) → expiredBy (log .fields) o c (latestAt log n) ≡ true → expiredBy (log .fields) o c (latestAt log m) ≡ true
       go none q = refl
-      go (some s) q = stable-step (log .fields) (latest log (suc n)) (latest log (suc m)) grows (length (formula .states)) c s v q
+      go (some t) q = stable-step (log .fields) (latestAt log n) (latestAt log m) (seen-grows n m s h j) (length (formula .states)) c t v q
 
-  -- a step expired after n fires on no later event
-  pub silent : (c : Config) (k n m : ℕ) → Valid (length (formula .states)) c → n < m → m < length (log .events) → expiredAt log formula c k n ≡ true
-      → fireAt log formula c m k ≡ none
+  -- a step expired after n fires on no later event of its stretch
+  pub silent : (c : Config) (k n m : ℕ) → Valid (length (formula .states)) c → stretchAt log n ≡ stretchAt log m → n < m → m < length (log .events)
+      → expiredAt log formula c k n ≡ true → fireAt log formula c m k ≡ none
   unfolding expiredAt fireAt
-  silent c k n m v h j e = go (stepAt formula (c .state) k) e
+  silent c k n m v s h j e = go (stepAt formula (c .state) k) e
     where
-      go : (o : Option Step) → expiredBy (log .fields) o c (latest log (suc n)) ≡ true → fireBy o c ((eventAt log m) .values) ≡ none
+      go : (o : Option Step) → expiredBy (log .fields) o c (latestAt log n) ≡ true → fireBy o c ((eventAt log m) .values) ≡ none
       go none q = refl
-      go (some s) q =
-          silent-step (log .fields) (latest log (suc n)) (latest log (suc m)) ((eventAt log m) .values) (grow-to (suc n) (suc m) (omega arith) (omega arith))
-          (latest-own log m) (length (formula .states)) c s v q
+      go (some t) q =
+          silent-step (log .fields) (latestAt log n) (latestAt log m) ((eventAt log m) .values) (seen-grows n m s (omega arith) j) (latest-own log m)
+          (length (formula .states)) c t v q
 
   -- The machine keeps every law that the search is exact by.
   unfoldable pub laws : Laws (machine log formula)
@@ -219,9 +219,9 @@ module _ (log : Log) (formula : Formula) (P : Premises log formula) where
     valid-start = valid-start (length (formula .states)) (P .some-state);
     valid-fire = valid-fire;
     start-open = P .open-start;
-    first = 0;
-    stable = λ c k n m v f h. stable c k n m v (omega arith);
-    silent = λ c k n m v f h. silent c k n m v h;
+    ordered = λ n m h k. omega (arith, P .recorded .in-order n m h k);
+    stable = λ c k n m v s h. stable c k n m v s (omega arith);
+    silent = silent;
     weight = λ c. total (c .counters);
     weight-start = refl;
     weight-fire = λ c d n k h. weight-fire log formula c d n k h;

@@ -62,10 +62,6 @@ module _ (g : Log) (fm : Formula) (log : LogCorrect.Recorded g) (formula : Formu
         open-start = open-start;
       }
 
-  -- the machine of a correct log and a correct formula keeps every law that the search is exact by, from event 0 on
+  -- the machine of a correct log and a correct formula keeps every law that the search is exact by
   unfoldable pub keeps : Laws (machine g fm)
   keeps = laws g fm premises
-
-  pub keeps-first : keeps .first ≡ 0
-  unfolding keeps laws
-  keeps-first = refl

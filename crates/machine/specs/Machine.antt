@@ -1,11 +1,11 @@
 -- The machine that a log and a formula make: its steps by number, on events by number.
-use Prim.Native.Nat.{ℕ, suc}
+use Prim.Native.Nat.{ℕ}
 use mathlib.Core.Bool.{Bool, true, false}
 use mathlib.Core.List.{List}
 use mathlib.Core.Option.{Option, none, some}
 use lib.ListN.{length, getElem?}
-use Rattle.event_log.specs.Log.{Kind, Values, Log, eventAt}
-use Rattle.event_log.specs.Latest.{latest}
+use Rattle.event_log.specs.Log.{Kind, Values, Log, eventAt, stretchAt}
+use Rattle.event_log.specs.Latest.{latestAt}
 use Rattle.formula.specs.Formula.{Formula, State, StateKind, ordinary, committed as committedKind, accept, reject, Step}
 use Rattle.formula.specs.Correct.{isFinal}
 use Rattle.formula.specs.Lookup.{stepAt}
@@ -28,7 +28,7 @@ expiredBy fields (some s) c x = expired fields c s x
 
 -- step k is expired (the paper's hopeless) after event n, "judged by the last present value up to n"; so is a step that the state lacks
 unfoldable pub expiredAt : Log → Formula → Config → ℕ → ℕ → Bool
-expiredAt log formula c k n = expiredBy (log .fields) (stepAt formula (c .state) k) c (latest log (suc n))
+expiredAt log formula c k n = expiredBy (log .fields) (stepAt formula (c .state) k) c (latestAt log n)
 
 abbrev pub isCommitted : StateKind → Bool
 isCommitted ordinary = false
@@ -68,5 +68,6 @@ machine log formula = record {
   fire = fireAt log formula;
   expired = expiredAt log formula;
   steps = 8;
+  stretch = stretchAt log;
   events = length (log .events);
 }

@@ -9,7 +9,7 @@ use borrow.Author.Tests.{lt-ltb, ne-eqb, eqb-true, eqb-false}
 use lib.ListN.{length, getD}
 use lib.Dec.{eqb}
 use Rattle.event_log.specs.Log.{Log, eventAt, Values}
-use Rattle.event_log.specs.Latest.{latest}
+use Rattle.event_log.specs.Latest.{latestAt}
 use Rattle.formula.specs.Formula.{Step, Formula}
 use Rattle.formula.specs.Lookup.{stepAt}
 use Rattle.runs.specs.inner.Search.{anyAlive}
@@ -81,11 +81,11 @@ module _ (log : Log) (formula : Formula) (fields : ℕ) (f table : List ℕ) (ch
         ∙ ap isFired (same-fire (stepAt formula (c .state) k))
 
   -- by the latest values of the fields, where the code holds them
-  module _ (x : Values) (lists : Carries fields ls c x fresh) (held : (g : ℕ) → getD x g none ≡ getD (latest log (suc n)) g none) (rising : List Bool)
+  module _ (x : Values) (lists : Carries fields ls c x fresh) (held : (g : ℕ) → getD x g none ≡ getD (latestAt log n) g none) (rising : List Bool)
       (mark : (g : ℕ) → getD rising g false ≡ rises (log .fields) g) where
-    same-expired : (o : Option Step) → expiredBy (log .fields) o (configOf ls c) x ≡ expiredBy (log .fields) o (configOf ls c) (latest log (suc n))
+    same-expired : (o : Option Step) → expiredBy (log .fields) o (configOf ls c) x ≡ expiredBy (log .fields) o (configOf ls c) (latestAt log n)
     same-expired none = refl
-    same-expired (some s) = expired-fields x (latest log (suc n)) held (log .fields) (configOf ls c) s
+    same-expired (some s) = expired-fields x (latestAt log n) held (log .fields) (configOf ls c) s
 
     -- Step k is expired in the code exactly where it is expired in the machine.
     pub expires-machine : (k : ℕ) → k < 8 → expiresAt f table c fresh rising x k ≡ expiredAt log formula (configOf ls c) k n

@@ -8,10 +8,11 @@ use native.Mathlib.Omega.{arith}
 use lib.ListN.{length}
 use Rattle.runs.specs.Machine.{Machine}
 use Rattle.runs.specs.inner.Lists.{only, keep, inTurn, distinct}
-use Rattle.runs.specs.inner.Search.{Thread, begun, arrive, firing, chosen, moves, passesOver, stays, unended, offers, next, ended, endings, lesser, leastFrom, least, anyAlive, hopeful, waiting, waitingCount, scan, origin, search}
+use Rattle.runs.specs.inner.Search.{Thread, begun, arrive, firing, chosen, moves, passesOver, stays, unended, offers, next, ended, endings, lesser, leastFrom, least, anyAlive, hopeful, waiting, waitingCount, scan, origin, endFrom, endOf, search}
+use Rattle.runs.proofs.Stretch.{end-span}
 
 module _ (M : Machine) where
-  open Machine M using (Config, same, start, committed, final, steps, events)
+  open Machine M using (Config, same, start, committed, final, steps, stretch, events)
 
   -- the machine with other steps
   abbrev pub stepping : (Config → ℕ → ℕ → Option Config) → (Config → ℕ → ℕ → Bool) → Machine
@@ -25,6 +26,7 @@ module _ (M : Machine) where
         fire = fire;
         expired = expired;
         steps = steps;
+        stretch = stretch;
         events = events;
       }
 
@@ -83,5 +85,5 @@ module _ (M : Machine) where
 
     -- The answers are the same.
     pub search-alike : (slots i : ℕ) → search M slots i ≡ search other slots i
-    unfolding origin search
-    search-alike slots i = scan-alike slots (events - i) i (origin M) 0 (omega arith)
+    unfolding origin endFrom endOf search
+    search-alike slots i = scan-alike slots (endOf M i - i) i (origin M) 0 (omega (arith, end-span M i))

@@ -4,11 +4,13 @@ use mathlib.Core.Logic.{_⊎_, inl, inr}
 use mathlib.Core.List.{List}
 use Prim.Native.Nat.{ℕ, zero, suc, _≤_, _<_}
 use native.Mathlib.Nat.{eq-or-lt-of-le}
+use native.Mathlib.Decide.{decLt}
 use native.Mathlib.Omega.{arith}
 use Rattle.runs.specs.Machine.{Machine}
 use Rattle.runs.specs.inner.Laws.{Laws}
 use Rattle.runs.specs.Waiting.{Count}
-use Rattle.runs.specs.inner.Search.{Thread, next, waitingCount, origin}
+use Rattle.runs.specs.inner.Search.{Thread, next, waitingCount, origin, endOf}
+use Rattle.runs.proofs.Stretch.{none-waits}
 use Rattle.runs.proofs.Reach.{Exact, exact-next, exact-origin, exact-count}
 
 module _ (M : Machine) (L : Laws M) where
@@ -38,6 +40,10 @@ module _ (M : Machine) (L : Laws M) where
     pub count : Count M i n number
 
   pub some-count : (i n : ℕ) → i ≤ n → n < events → Some i n
-  some-count i n h l =
-      let x = lives i (suc n) (omega arith) (omega arith) in
-      record { number = waitingCount M n (x .list); count = exact-count M L i n (x .list) h (x .exact) }
+  some-count i n h l = go (decLt n (endOf M i))
+    where
+      go : Dec (n < endOf M i) → Some i n
+      go (yes b) =
+          let x = lives i (suc n) (omega (arith, h)) (omega (arith, l)) in
+          record { number = waitingCount M n (x .list); count = exact-count M L i n (x .list) h b (x .exact) }
+      go (no b) = record { number = 0; count = none-waits M L i n h l (omega (arith, b)) }

@@ -2,6 +2,7 @@
 pub mod Lists
 pub mod Comparison
 pub mod Trails
+pub mod Stretch
 pub mod Moves
 pub mod Least
 pub mod Reach
@@ -14,6 +15,6 @@ pub mod Within
 pub mod Growth
 pub mod OneByOne
 pub mod Loop
-pub mod Range
 pub mod Alike
+pub mod Moved
 mod Examples

@@ -6,7 +6,7 @@ use mathlib.Core.Option.{Option, none, some}
 use mathlib.Core.List.{List, [], _∷_, List·Memᴰ·not-nil}
 use Prim.Native.Nat.{ℕ, zero, suc, _+_, _-_, _≤_, _<_, max, Ordering·lt}
 use native.Mathlib.Nat.{eq-or-lt-of-le}
-use native.Mathlib.Decide.{decLe}
+use native.Mathlib.Decide.{decLe, decLt}
 use native.Mathlib.Omega.{arith}
 use lib.Dec.{ltb}
 use borrow.Author.Tests.{ltb-true, ltb-false}
@@ -18,12 +18,13 @@ use Rattle.runs.specs.Order.{Later, ends-later}
 use Rattle.runs.specs.inner.Order.{order}
 use Rattle.runs.specs.Waiting.{Count}
 use Rattle.runs.specs.Answer.{Answer}
-use Rattle.runs.specs.inner.Search.{Thread, next, endings, least, waitingCount, overfull, outcome, scan, origin, search}
+use Rattle.runs.specs.inner.Search.{Thread, next, endings, least, waitingCount, overfull, outcome, scan, origin, endOf, search}
 use Rattle.runs.specs.Demand.{Crowded, Reached, Peak}
 use Rattle.runs.specs.inner.Demand.{Named, Absent, Demand}
 use Rattle.runs.proofs.Lists.{same-length}
-use Rattle.runs.proofs.Comparison.{AtMost, order-later, rising-last}
-use Rattle.runs.proofs.Trails.{follow-rising, run-there}
+use Rattle.runs.proofs.Comparison.{AtMost, order-later}
+use Rattle.runs.proofs.Trails.{follow-rising, run-from}
+use Rattle.runs.proofs.Stretch.{end-least, end-most, end-after, run-inside, none-waits}
 use Rattle.runs.proofs.Least.{Least, least-none, least-some}
 use Rattle.runs.proofs.Reach.{Exact, exact-next, exact-origin, exact-count, Ends, endings-in, endings-out}
 
@@ -35,11 +36,6 @@ module _ (M : Machine) where
   count-one i n j k a b =
       sym (a .counted) ∙ same-length (a .list) (b .list) (a .once) (b .once) (λ c m. b .complete c (a .sound c m)) (λ c m. a .complete c (b .sound c m))
       ∙ b .counted
-
-  -- a run ends on its start or later
-  run-from : (i : ℕ) (t : Trail) (e : Config) → Run M i t e → i ≤ last t
-  run-from i [] e r = absurd (r .path .begins)
-  run-from i (x ∷ t) e r = omega (arith, r .path .begins, rising-last (x .event) t (follow-rising M start e i (x ∷ t) (r .path .follows) .1))
 
   -- of two runs that end on one event the one that is not later in the computed order is first in the literal order
   run-later : (i : ℕ) (t u : Trail) (e d : Config) → Run M i t e → Run M i u d → last t ≡ last u → AtMost t u → (u ≡ t) ⊎ Later t u
@@ -88,17 +84,9 @@ module _ (M : Machine) where
 
   -- ---- the three ways on
 
-  no-events : (slots i n p : ℕ) → n ≡ events → Before slots i n p → Absent M slots i p
-  no-events slots i n p e b =
-      record {
-        roomy = λ m c. b .roomy m (omega (arith, c .there, e)) c;
-        none = λ u d r. omega (arith, b .unended u d r, run-there M i u d r, e);
-        peak = subst (λ m. Peak M i m p) e (b .peak);
-      }
-
-  one-found : (slots i n p : ℕ) (ths : List (Thread M)) (th : Thread M) → n < events → Exact M i n ths → Before slots i n p → Least M (endings M n ths) th
-      → Named M slots i (th .config) (th .trail) p
-  one-found slots i n p ths th l x b k =
+  one-found : (slots i n p : ℕ) (ths : List (Thread M)) (th : Thread M) → n < events → n < endOf M i → Exact M i n ths → Before slots i n p
+      → Least M (endings M n ths) th → Named M slots i (th .config) (th .trail) p
+  one-found slots i n p ths th l s x b k =
       record {
         roomy = λ m c. b .roomy m (omega (arith, c .unended (th .trail) (th .config) (z .run), z .last-is)) c;
         run = z .run;
@@ -107,7 +95,7 @@ module _ (M : Machine) where
       }
     where
       z : Ends M i n th
-      z = endings-in M i n ths l x th (k .member)
+      z = endings-in M i n ths l s x th (k .member)
 
       go : (u : Trail) (d : Config) → Run M i u d → (n ≡ last u) ⊎ (n < last u) → (u ≡ th .trail) ⊎ Later (th .trail) u
       go u d r (inl e) =
@@ -126,13 +114,51 @@ module _ (M : Machine) where
 module _ (M : Machine) (L : Laws M) where
   open Machine M using (Config, events)
 
-  scan-meets : (slots i f n p : ℕ) (ths : List (Thread M)) → n + f ≡ events → Exact M i n ths → Before M slots i n p
+  -- ---- the end of the stretch
+
+  -- behind the end nothing waits, so the peak before the end is the peak of the log
+  peak-end : (i p : ℕ) → i ≤ events → Peak M i (endOf M i) p → Peak M i events p
+  peak-end i p z k =
+      record {
+        largest = λ m j a b c. up m j a b c (decLt m (endOf M i));
+        reached = λ a. far (k .reached (end-after M i a));
+        nothing = λ a. k .nothing (omega (arith, a, end-most M i z));
+      }
+    where
+      up : (m j : ℕ) → i ≤ m → m < events → Count M i m j → Dec (m < endOf M i) → j ≤ p
+      up m j a b c (yes h) = k .largest m j a h c
+      up m j a b c (no h) = omega (arith, count-one M i m j 0 c (none-waits M L i m a b (omega (arith, h))))
+
+      far : Reached M i (endOf M i) p → Reached M i events p
+      far r = record { event = r .event; from = r .from; before = omega (arith, r .before, end-most M i z); count = r .count }
+
+  no-events : (slots i n p : ℕ) → i ≤ events → n ≡ endOf M i → Before M slots i n p → Absent M slots i p
+  no-events slots i n p z e b =
+      record {
+        roomy = λ m c. room m c (decLt m (endOf M i));
+        none = λ u d r. omega (arith, b .unended u d r, run-inside M L i u d r, e);
+        peak = peak-end i p z (subst (λ m. Peak M i m p) e (b .peak));
+      }
+    where
+      room : (m : ℕ) → Crowded M slots i m → Dec (m < endOf M i) → ⊥
+      room m c (yes h) = b .roomy m (omega (arith, h, e)) c
+      room m c (no h) =
+          let none = none-waits M L i m (c .from) (c .there) (omega (arith, h)) in
+          omega (arith, c .more .over, count-one M i m (c .more .number) 0 (c .more .count) none)
+
+  scan-meets : (slots i f n p : ℕ) (ths : List (Thread M)) → i ≤ events → n + f ≡ endOf M i → Exact M i n ths → Before M slots i n p
       → Demand M slots i (scan M (next M) (waitingCount M) slots f n ths p)
   unfolding scan
-  scan-meets slots i zero n p ths h x b = no-events M slots i n p (omega (arith, h)) b
-  scan-meets slots i (suc f) n p ths h x b =
-      ending (least M (endings M n ths)) refl (scan-meets slots i f (suc n) (max p w) (next M n ths) (omega (arith, h)) more)
+  scan-meets slots i zero n p ths z h x b = no-events slots i n p z (omega (arith, h)) b
+  scan-meets slots i (suc f) n p ths z h x b =
+      ending (least M (endings M n ths)) refl (scan-meets slots i f (suc n) (max p w) (next M n ths) z (omega (arith, h)) more)
     where
+      in-stretch : n < endOf M i
+      in-stretch = omega (arith, h)
+
+      in-log : n < events
+      in-log = omega (arith, in-stretch, end-most M i z)
+
       w : ℕ
       w = waitingCount M n (next M n ths)
 
@@ -140,17 +166,17 @@ module _ (M : Machine) (L : Laws M) where
       rest = scan M (next M) (waitingCount M) slots f (suc n) (next M n ths) (max p w)
 
       more : Exact M i (suc n) (next M n ths)
-      more = exact-next M i n ths (b .from) (omega (arith, h)) x
+      more = exact-next M i n ths (b .from) in-log x
 
       count : Count M i n w
-      count = exact-count M L i n (next M n ths) (b .from) more
+      count = exact-count M L i n (next M n ths) (b .from) in-stretch more
 
       waits : (c : Bool) → ltb slots w ≡ c → ((u : Trail) (e : Config) → Run M i u e → n < last u)
           → (Before M slots i (suc n) (max p w) → Demand M slots i rest) → Demand M slots i (overfull M c n rest)
       waits true e u go =
           record {
             here = record
-                { from = b .from; there = omega (arith, h); unended = u; more = record { number = w; count = count; over = ltb-true slots w e } };
+                { from = b .from; there = in-log; unended = u; more = record { number = w; count = count; over = ltb-true slots w e } };
             first =
                 b .roomy;
           }
@@ -175,13 +201,13 @@ module _ (M : Machine) (L : Laws M) where
 
       ending : (o : Option (Thread M)) → least M (endings M n ths) ≡ o → (Before M slots i (suc n) (max p w) → Demand M slots i rest)
           → Demand M slots i (outcome M o p (overfull M (ltb slots w) n rest))
-      ending (some th) e go = one-found M slots i n p ths th (omega (arith, h)) x b (least-some M (endings M n ths) th e)
+      ending (some th) e go = one-found M slots i n p ths th in-log in-stretch x b (least-some M (endings M n ths) th e)
       ending none e go = waits (ltb slots w) refl (no-ending M i n ths x (b .unended) (least-none M (endings M n ths) e)) go
 
   -- the third demand is met
   pub search-meets : (slots i : ℕ) → i ≤ events → Demand M slots i (search M slots i)
   unfolding search scan
-  search-meets slots i h = scan-meets slots i (events - i) i 0 (origin M) (omega (arith, h)) (exact-origin M L i) first
+  search-meets slots i h = scan-meets slots i (endOf M i - i) i 0 (origin M) h (omega (arith, end-least M i)) (exact-origin M L i) first
     where
       first : Before M slots i i 0
       first =

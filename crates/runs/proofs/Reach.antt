@@ -12,11 +12,12 @@ use Rattle.runs.specs.Lists.{In}
 use Rattle.runs.specs.inner.Lists.{keep}
 use Rattle.runs.specs.Machine.{Machine}
 use Rattle.runs.specs.inner.Laws.{Laws}
-use Rattle.runs.specs.Run.{Entry, Trail, lastOr, last, Starts, Quiet, Takes, Follow, Run, Partial}
+use Rattle.runs.specs.Run.{Entry, Trail, lastOr, last, Starts, Quiet, Takes, Follow, Steps, Run, Partial}
 use Rattle.runs.specs.Waiting.{Waits, Count}
-use Rattle.runs.specs.inner.Search.{Thread, begun, moves, stays, unended, offers, next, ended, endings, hopeful, waiting, waitingCount, origin}
+use Rattle.runs.specs.inner.Search.{Thread, begun, moves, stays, unended, offers, next, ended, endings, hopeful, waiting, waitingCount, origin, endOf}
 use Rattle.runs.proofs.Lists.{only-in, only-first, only-rest, keep-in, keep-out, Given, turn-in, turn-out, map-in, map-out, distinct-in, distinct-out, distinct-once}
 use Rattle.runs.proofs.Trails.{after, after-snoc, last-snoc, after-last, rising-after, length-snoc, follow-rising, follow-snoc, Parted, follow-part}
+use Rattle.runs.proofs.Stretch.{inside, unbroken-in}
 use Rattle.runs.proofs.Moves.{Moved, moves-in, moves-out, stays-in, stays-out, unended-in, unended-out, hopeful-in, hopeful-out}
 
 -- before event i nothing is taken; from then on the first step is on i
@@ -209,14 +210,15 @@ module _ (M : Machine) where
     pub run : Run M i (x .trail) (x .config)
     pub last-is : last (x .trail) ≡ n
 
-  pub endings-in : (i n : ℕ) (ths : List (Thread M)) → n < events → Exact i n ths → (x : Thread M) → In x (endings M n ths) → Ends i n x
+  pub endings-in : (i n : ℕ) (ths : List (Thread M)) → n < events → n < endOf M i → Exact i n ths → (x : Thread M) → In x (endings M n ths) → Ends i n x
   unfolding endings
-  endings-in i n ths l e x m =
+  endings-in i n ths l b e x m =
       let g = turn-in (λ (th : Thread M). keep (ended M) (moves M n th)) ths m in
       let q = keep-in (ended M) (moves M n (g .giver)) (g .gives) in
       let v = moves-in M n (g .giver) x (q .member) in
       let live = e .sound (g .giver) (g .member) in
       let d = move-led i n (g .giver) x l live v in
+      let rises = follow-rising M start (x .config) i (x .trail) (d .follows) in
       record {
         run =
             record {
@@ -226,6 +228,7 @@ module _ (M : Machine) where
                     most = omega (arith, move-length n (g .giver) x v, live .most);
                     begins = d .begins;
                     follows = d .follows;
+                    unbroken = unbroken-in M i i 0 (x .trail) (omega arith) rises (omega (arith, d .ends, b));
                   };
               ends = q .passes;
             };
@@ -267,9 +270,9 @@ module _ (M : Machine) (L : Laws M) where
           absurd (omega (arith, l .begins, l .early, rising-after (suc (x .event)) t (follow-rising M start c i (x ∷ t) (l .follows) .1)))
 
   -- the distinct configurations read off the live threads are exactly those that wait
-  pub exact-count : (i n : ℕ) (ths : List (Thread M)) → i ≤ n → Exact M i (suc n) ths → Count M i n (waitingCount M n ths)
+  pub exact-count : (i n : ℕ) (ths : List (Thread M)) → i ≤ n → n < endOf M i → Exact M i (suc n) ths → Count M i n (waitingCount M n ths)
   unfolding waiting waitingCount
-  exact-count i n ths h x =
+  exact-count i n ths h b x =
       record {
         list = waiting M n ths;
         once = distinct-once same (L .same-equal) (L .equal-same) (map (λ (th : Thread M). th .config) (keep (hopeful M n) ths));
@@ -284,13 +287,24 @@ module _ (M : Machine) (L : Laws M) where
       waits c (y ∷ t) l e =
           record {
             trail = y ∷ t;
-            partial = record
-                { path = record { least = omega arith; most = omega (arith, l .most); begins = l .begins; follows = l .follows }; going = l .going };
+            partial = record { path = path; going = l .going };
             most = l .most;
             upto = omega (arith, l .early, after-last y t);
             patient = λ k m p q. l .patient k m (omega (arith, p, after-last y t)) (omega (arith, q));
             hope = hopeful-in M n (record { config = c; trail = y ∷ t }) e;
+            unbroken = inside M i n h b;
           }
+        where
+          path : Steps M i (y ∷ t) c
+          path =
+              let rises = follow-rising M start c i (y ∷ t) (l .follows) in
+              record {
+                least = omega arith;
+                most = omega (arith, l .most);
+                begins = l .begins;
+                follows = l .follows;
+                unbroken = unbroken-in M i i 0 (y ∷ t) (omega arith) rises (omega (arith, b, l .early, after-last y t));
+              }
 
       sound : (c : Config) → In c (waiting M n ths) → Waits M i n c
       sound c m =

@@ -17,28 +17,29 @@ use Rattle.runs.specs.inner.Laws.{Laws}
 use Rattle.runs.specs.Run.{Quiet, Follow}
 use Rattle.runs.specs.Waiting.{Hopeful}
 use Rattle.runs.specs.Answer.{Answer}
-use Rattle.runs.specs.inner.Search.{Thread, moves, stays, unended, offers, next, ended, endings, least, hopeful, waiting, waitingCount, overfull, outcome, scan, origin, search}
+use Rattle.runs.specs.inner.Search.{Thread, moves, stays, unended, offers, next, ended, endings, least, hopeful, waiting, waitingCount, overfull, outcome, scan, origin, endOf, search}
 use Rattle.runs.specs.inner.Threads.{candidates, advance, within, onward, follow, threads}
 use Rattle.runs.proofs.Lists.{only-in, only-first, only-rest, Passed, keep-in, keep-out, Given, turn-in, turn-out, Image, map-in, map-out, distinct-in, distinct-out, distinct-once, same-length}
 use Rattle.runs.proofs.Comparison.{AtMost, at-most-append}
 use Rattle.runs.proofs.Trails.{follow-one, follow-valid, start-weight}
 use Rattle.runs.proofs.Moves.{stepped, Moved, moves-in, moves-out, stays-in, stays-out, begun-same, unended-in, unended-out, hopeful-in, hopeful-out, hopeless-in}
 use Rattle.runs.proofs.Least.{some≢none, Under, least-agrees}
+use Rattle.runs.proofs.Stretch.{end-least, end-most, inside}
 use Rattle.runs.proofs.Reach.{Live, Exact, exact-next, exact-origin, endings-in, move-length}
 use Rattle.runs.proofs.LeastTrails.{configs, Covered, covered-trans, covered-self, insertAll-from, insertAll-covers, insertAll-once, fits}
 
 module _ (M : Machine) where
-  open Machine M using (Config, start, committed, final, fire, expired, steps, events)
+  open Machine M using (Config, committed, fire, expired, steps)
 
-  -- from event n on no step fires, and all are expired
-  record Dead (n : ℕ) (c : Config) : Type 0 where
-    silent : (m k : ℕ) → n ≤ m → m < events → k < steps → fire c m k ≡ none
-    gone : (m k : ℕ) → n ≤ m → m < events → k < steps → expired c k m ≡ true
+  -- from event n on, in the stretch of event i, no step fires, and all are expired
+  record Dead (i n : ℕ) (c : Config) : Type 0 where
+    silent : (m k : ℕ) → n ≤ m → m < endOf M i → k < steps → fire c m k ≡ none
+    gone : (m k : ℕ) → n ≤ m → m < endOf M i → k < steps → expired c k m ≡ true
 
   -- the threads of w are some of all, and cover all that can still move or wait from event n on
-  record Selects (n : ℕ) (w all : List (Thread M)) : Type 0 where
+  record Selects (i n : ℕ) (w all : List (Thread M)) : Type 0 where
     from : (th : Thread M) → In th w → In th all
-    covers : (th : Thread M) → In th all → Covered M w th ⊎ Dead n (th .config)
+    covers : (th : Thread M) → In th all → Covered M w th ⊎ Dead i n (th .config)
 
   -- ---- what holds of a thread holds of another in its configuration
 
@@ -63,16 +64,16 @@ module _ (M : Machine) where
   hopeful-same n x y e h = hopeful-out M n y (subst (λ c. Hopeful M c n) (sym e) (hopeful-in M n x h))
 
   -- a dead thread moves nowhere, and does not wait
-  dead-moves : (n : ℕ) (th x : Thread M) → n < events → Dead n (th .config) → Moved M n th x → ⊥
-  dead-moves n th x l d v = some≢none (sym (v .fires) ∙ d .silent n (v .number) (le-refl n) l (v .known))
+  dead-moves : (i n : ℕ) (th x : Thread M) → n < endOf M i → Dead i n (th .config) → Moved M n th x → ⊥
+  dead-moves i n th x l d v = some≢none (sym (v .fires) ∙ d .silent n (v .number) (le-refl n) l (v .known))
 
-  dead-hope : (n : ℕ) (th : Thread M) → n < events → Dead n (th .config) → hopeful M n th ≡ true → ⊥
-  dead-hope n th l d h =
+  dead-hope : (i n : ℕ) (th : Thread M) → n < endOf M i → Dead i n (th .config) → hopeful M n th ≡ true → ⊥
+  dead-hope i n th l d h =
       let k = hopeful-in M n th h in
       true≢false (sym (d .gone n (k .step) (le-refl n) l (k .known)) ∙ k .alive)
 
 module _ (M : Machine) (L : Laws M) where
-  open Machine M using (Config, same, start, committed, final, fire, expired, steps, events)
+  open Machine M using (Config, same, start, final, stretch, events)
 
   -- equal configurations have equally long trails
   same-steps : (i n : ℕ) (a b : Thread M) → Live M i n a → Live M i n b → a .config ≡ b .config → length (a .trail) ≡ length (b .trail)
@@ -80,28 +81,32 @@ module _ (M : Machine) (L : Laws M) where
       sym (start-weight M L (a .config) i (a .trail) (p .follows)) ∙ ap (L .weight) e ∙ start-weight M L (b .config) i (b .trail) (q .follows)
 
   -- what has no unexpired step after n is dead from the next event on
-  hopeless-dead : (i n : ℕ) (x : Thread M) → L .first ≤ n → Live M i (suc n) x → hopeful M n x ≡ false → Dead M (suc n) (x .config)
-  hopeless-dead i n x h l e =
+  hopeless-dead : (i n : ℕ) (x : Thread M) → i ≤ events → i ≤ n → Live M i (suc n) x → hopeful M n x ≡ false → Dead M i (suc n) (x .config)
+  hopeless-dead i n x z h l e =
       record {
-        silent = λ m k a b q. L .silent (x .config) k n m valid h a b (hopeless-in M n x e k q);
-        gone = λ m k a b q. L .stable (x .config) k n m valid h a b (hopeless-in M n x e k q);
+        silent = λ m k a b q. L .silent (x .config) k n m valid (one-stretch m a b) a (omega (arith, b, end-most M i z)) (hopeless-in M n x e k q);
+        gone = λ m k a b q. L .stable (x .config) k n m valid (one-stretch m a b) a (omega (arith, b, end-most M i z)) (hopeless-in M n x e k q);
       }
     where
+      one-stretch : (m : ℕ) → n < m → m < endOf M i → stretch n ≡ stretch m
+      one-stretch m a b = inside M i n h (omega (arith, a, b)) ∙ sym (inside M i m (omega (arith, a, h)) b)
+
       valid : L .Valid (x .config)
       valid = follow-valid M L start (x .config) i (x .trail) (L .valid-start) (l .follows)
 
   -- ---- the same least ending
 
-  same-endings : (i n : ℕ) (w all : List (Thread M)) → n < events → Exact M i n all → Selects M n w all → least M (endings M n w) ≡ least M (endings M n all)
+  same-endings : (i n : ℕ) (w all : List (Thread M)) → n < events → n < endOf M i → Exact M i n all → Selects M i n w all
+      → least M (endings M n w) ≡ least M (endings M n all)
   unfolding endings
-  same-endings i n w all l x s = least-agrees M (endings M n w) (endings M n all) sub cover one
+  same-endings i n w all z l x s = least-agrees M (endings M n w) (endings M n all) sub cover one
     where
       sub : (y : Thread M) → In y (endings M n w) → In y (endings M n all)
       sub y m =
           let g = turn-in (λ (th : Thread M). keep (ended M) (moves M n th)) w m in
           turn-out (λ (th : Thread M). keep (ended M) (moves M n th)) (s .from (g .giver) (g .member)) (g .gives)
 
-      under : (th y : Thread M) → In th all → Moved M n th y → final (y .config) ≡ true → Covered M w th ⊎ Dead M n (th .config) → Under M (endings M n w) y
+      under : (th y : Thread M) → In th all → Moved M n th y → final (y .config) ≡ true → Covered M w th ⊎ Dead M i n (th .config) → Under M (endings M n w) y
       under th y m v f (inl c) =
           record {
             thread = stepped M (c .thread) n (v .number) (y .config);
@@ -110,7 +115,7 @@ module _ (M : Machine) (L : Laws M) where
             under = shifted-under M n th y (c .thread) v
                 (same-steps i n (c .thread) th (x .sound (c .thread) (s .from (c .thread) (c .member))) (x .sound th m) (c .config-is)) (c .under);
           }
-      under th y m v f (inr d) = absurd (dead-moves M n th y l d v)
+      under th y m v f (inr d) = absurd (dead-moves M i n th y l d v)
 
       cover : (y : Thread M) → In y (endings M n all) → Under M (endings M n w) y
       cover y m = of (turn-in (λ (th : Thread M). keep (ended M) (moves M n th)) all m)
@@ -125,12 +130,12 @@ module _ (M : Machine) (L : Laws M) where
         where
           config : a .config ≡ b .config
           config = follow-one M start start (a .config) (b .config) i (b .trail) refl
-              (subst (λ t. Follow M start i t (a .config)) e (endings-in M i n all l x a p .run .path .follows))
-              (endings-in M i n all l x b q .run .path .follows)
+              (subst (λ t. Follow M start i t (a .config)) e (endings-in M i n all z l x a p .run .path .follows))
+              (endings-in M i n all z l x b q .run .path .follows)
 
   -- ---- the same waiting configurations
 
-  candidate : (i n : ℕ) (w all : List (Thread M)) → n < events → Exact M i n all → Selects M n w all → (x : Thread M) → In x (next M n all)
+  candidate : (i n : ℕ) (w all : List (Thread M)) → n < endOf M i → Exact M i n all → Selects M i n w all → (x : Thread M) → In x (next M n all)
       → hopeful M n x ≡ true → Covered M (advance M n w) x
   unfolding next offers candidates advance
   candidate i n w all l ex s x m h = of (turn-in (offers M n) all m)
@@ -143,14 +148,14 @@ module _ (M : Machine) (L : Laws M) where
       long : (th : Thread M) → In th all → (c : Covered M w th) → length (c .thread .trail) ≡ length (th .trail)
       long th k c = same-steps i n (c .thread) th (ex .sound (c .thread) (s .from (c .thread) (c .member))) (ex .sound th k) (c .config-is)
 
-      stay : (th : Thread M) → In th all → stays M n th ≡ true → x ≡ th → Covered M w th ⊎ Dead M n (th .config) → Covered M (advance M n w) x
+      stay : (th : Thread M) → In th all → stays M n th ≡ true → x ≡ th → Covered M w th ⊎ Dead M i n (th .config) → Covered M (advance M n w) x
       stay th k e q (inl c) =
           enter (c .thread) (c .thread) (c .member)
           (only-first (keep (unended M) (moves M n (c .thread))) (stays-same M n th (c .thread) (c .config-is) (long th k c) e))
           (c .config-is ∙ ap (λ (y : Thread M). y .config) (sym q)) (subst (λ (y : Thread M). AtMost (c .thread .trail) (y .trail)) (sym q) (c .under))
-      stay th k e q (inr d) = absurd (dead-hope M n th l d (hopeful-same M n x th (ap (λ (y : Thread M). y .config) (sym q)) h))
+      stay th k e q (inr d) = absurd (dead-hope M i n th l d (hopeful-same M n x th (ap (λ (y : Thread M). y .config) (sym q)) h))
 
-      move : (th : Thread M) → In th all → Moved M n th x → unended M x ≡ true → Covered M w th ⊎ Dead M n (th .config) → Covered M (advance M n w) x
+      move : (th : Thread M) → In th all → Moved M n th x → unended M x ≡ true → Covered M w th ⊎ Dead M i n (th .config) → Covered M (advance M n w) x
       move th k v u (inl c) =
           enter (c .thread) y (c .member)
           (only-rest (stays M n (c .thread)) (c .thread) (keep-out (unended M) (shifted M n th x (c .thread) (c .config-is) v) open-still)) refl
@@ -168,7 +173,7 @@ module _ (M : Machine) (L : Laws M) where
                 (record { event = n; step = v .number } ∷ []),
             long th k c,
           ))
-      move th k v u (inr d) = absurd (dead-moves M n th x l d v)
+      move th k v u (inr d) = absurd (dead-moves M i n th x l d v)
 
       of : Given (offers M n) all x → Covered M (advance M n w) x
       of g = cases (only-in (stays M n (g .giver)) (g .gives))
@@ -180,9 +185,9 @@ module _ (M : Machine) (L : Laws M) where
               move (g .giver) (g .member) (moves-in M n (g .giver) x (q .member)) (q .passes) (s .covers (g .giver) (g .member))
 
   -- a thread of the next list is one of the live threads, and may wait
-  advanced : (n : ℕ) (w all : List (Thread M)) → Selects M n w all → (x : Thread M) → In x (advance M n w) → Passed (hopeful M n) (next M n all) x
+  advanced : (i n : ℕ) (w all : List (Thread M)) → Selects M i n w all → (x : Thread M) → In x (advance M n w) → Passed (hopeful M n) (next M n all) x
   unfolding next candidates advance
-  advanced n w all s x m = go (insertAll-from M [] (candidates M n w) x m)
+  advanced i n w all s x m = go (insertAll-from M [] (candidates M n w) x m)
     where
       up : Given (offers M n) w x → In x (next M n all)
       up g = turn-out (offers M n) (s .from (g .giver) (g .member)) (g .gives)
@@ -193,7 +198,8 @@ module _ (M : Machine) (L : Laws M) where
           let q = keep-in (hopeful M n) (next M n w) h in
           record { member = up (turn-in (offers M n) w (q .member)); passes = q .passes }
 
-  same-count : (i n : ℕ) (w all : List (Thread M)) → n < events → Exact M i n all → Selects M n w all → length (advance M n w) ≡ waitingCount M n (next M n all)
+  same-count : (i n : ℕ) (w all : List (Thread M)) → n < endOf M i → Exact M i n all → Selects M i n w all
+      → length (advance M n w) ≡ waitingCount M n (next M n all)
   unfolding waiting waitingCount advance
   same-count i n w all l ex s =
       sym (length-map (advance M n w) config) ∙ same-length (configs M (advance M n w)) (waiting M n (next M n all))
@@ -210,7 +216,7 @@ module _ (M : Machine) (L : Laws M) where
         where
           of : Image (λ (th : Thread M). th .config) (advance M n w) c → In c (waiting M n (next M n all))
           of g =
-              let q = advanced n w all s (g .source) (g .member) in
+              let q = advanced i n w all s (g .source) (g .member) in
               subst (λ z. In z (waiting M n (next M n all))) (sym (g .is)) (distinct-out same (L .same-equal) (L .equal-same)
               (map-out (λ (th : Thread M). th .config) (keep-out (hopeful M n) (q .member) (q .passes))))
 
@@ -223,29 +229,32 @@ module _ (M : Machine) (L : Laws M) where
               let k = candidate i n w all l ex s (g .source) (q .member) (q .passes) in
               subst (λ z. In z (configs M (advance M n w))) (k .config-is ∙ sym (g .is)) (map-out (λ (th : Thread M). th .config) (k .member))
 
-  selects-next : (i n : ℕ) (w all : List (Thread M)) → L .first ≤ i → i ≤ n → n < events → Exact M i n all → Selects M n w all
-      → Selects M (suc n) (advance M n w) (next M n all)
-  selects-next i n w all z h l ex s = record { from = λ th m. advanced n w all s th m .member; covers = λ th m. go th m (hopeful M n th) refl }
+  selects-next : (i n : ℕ) (w all : List (Thread M)) → i ≤ events → i ≤ n → n < endOf M i → Exact M i n all → Selects M i n w all
+      → Selects M i (suc n) (advance M n w) (next M n all)
+  selects-next i n w all z h l ex s = record { from = λ th m. advanced i n w all s th m .member; covers = λ th m. go th m (hopeful M n th) refl }
     where
-      go : (th : Thread M) → In th (next M n all) → (b : Bool) → hopeful M n th ≡ b → Covered M (advance M n w) th ⊎ Dead M (suc n) (th .config)
+      go : (th : Thread M) → In th (next M n all) → (b : Bool) → hopeful M n th ≡ b → Covered M (advance M n w) th ⊎ Dead M i (suc n) (th .config)
       go th m true e = inl (candidate i n w all l ex s th m e)
-      go th m false e = inr (hopeless-dead i n th (omega (arith, z, h)) (exact-next M i n all h l ex .sound th m) e)
+      go th m false e = inr (hopeless-dead i n th z h (exact-next M i n all h (omega (arith, l, end-most M i z)) ex .sound th m) e)
 
   -- ---- the same answer
 
-  same-scan : (slots i f n p : ℕ) (w all : List (Thread M)) → L .first ≤ i → i ≤ n → n + f ≡ events → Exact M i n all → Selects M n w all
+  same-scan : (slots i f n p : ℕ) (w all : List (Thread M)) → i ≤ events → i ≤ n → n + f ≡ endOf M i → Exact M i n all → Selects M i n w all
       → scan M (advance M) (λ m ths. length ths) slots f n w p ≡ scan M (next M) (waitingCount M) slots f n all p
   unfolding scan
   same-scan slots i zero n p w all z h e x s = refl
   same-scan slots i (suc f) n p w all z h e x s =
-      ap₂ (λ (o : Option (Thread M)) (a : Answer M). outcome M o p a) (same-endings i n w all l x s)
+      ap₂ (λ (o : Option (Thread M)) (a : Answer M). outcome M o p a) (same-endings i n w all b l x s)
       (ap₂ (λ (k : ℕ) (a : Answer M). overfull M (ltb slots k) n a) count
       (ap (λ (k : ℕ). scan M (advance M) (λ m ths. length ths) slots f (suc n) (advance M n w) (max p k)) count ∙
       same-scan slots i f (suc n) (max p (waitingCount M n (next M n all))) (advance M n w) (next M n all) z (omega (arith, h)) (omega (arith, e))
-      (exact-next M i n all h l x) (selects-next i n w all z h l x s)))
+      (exact-next M i n all h b x) (selects-next i n w all z h l x s)))
     where
-      l : n < events
+      l : n < endOf M i
       l = omega (arith, e)
+
+      b : n < events
+      b = omega (arith, l, end-most M i z)
 
       count : length (advance M n w) ≡ waitingCount M n (next M n all)
       count = same-count i n w all l x s
@@ -267,11 +276,11 @@ module _ (M : Machine) (L : Laws M) where
       go false ih = ih
 
   -- the list of threads gives what the definition gives
-  pub threads-search : (slots i : ℕ) → L .first ≤ i → i ≤ events → threads M slots i ≡ search M slots i
+  pub threads-search : (slots i : ℕ) → i ≤ events → threads M slots i ≡ search M slots i
   unfolding threads search
-  threads-search slots i z h =
-      follow-scan slots (events - i) i 0 (origin M) ∙
-      same-scan slots i (events - i) i 0 (origin M) (origin M) z (le-refl i) (omega (arith, h)) (exact-origin M L i) (record {
+  threads-search slots i z =
+      follow-scan slots (endOf M i - i) i 0 (origin M) ∙
+      same-scan slots i (endOf M i - i) i 0 (origin M) (origin M) z (le-refl i) (omega (arith, end-least M i)) (exact-origin M L i) (record {
         from =
             λ th m. m;
         covers = λ th m. inl (covered-self M (origin M) th m);

@@ -8,7 +8,7 @@ use lib.ListN.{length, length-append}
 use Rattle.runs.specs.Machine.{Machine}
 use Rattle.runs.specs.inner.Laws.{Laws}
 use Rattle.runs.specs.Run.{Entry, Trail, lastOr, last, Takes, Follow, Run}
-use Rattle.runs.proofs.Comparison.{Rising}
+use Rattle.runs.proofs.Comparison.{Rising, rising-last}
 
 -- the first event after a trail's last one; s for the empty trail
 abbrev pub after : ℕ → Trail → ℕ
@@ -87,6 +87,11 @@ module _ (M : Machine) where
   pub run-there : (i : ℕ) (t : Trail) (e : Config) → Run M i t e → last t < events
   run-there i [] e r = absurd (r .path .begins)
   run-there i (x ∷ t) e r = follow-there start e i x t (r .path .follows)
+
+  -- a run ends on its start or later
+  pub run-from : (i : ℕ) (t : Trail) (e : Config) → Run M i t e → i ≤ last t
+  run-from i [] e r = absurd (r .path .begins)
+  run-from i (x ∷ t) e r = omega (arith, r .path .begins, rising-last (x .event) t (follow-rising start e i (x ∷ t) (r .path .follows) .1))
 
 module _ (M : Machine) (L : Laws M) where
   open Machine M using (Config, start)

@@ -17,4 +17,6 @@ pub record Machine : Type 1 where
   -- `expired c k n`: step k is expired (the paper's hopeless) after event n; so is a step that the state lacks
   pub expired : Config → ℕ → ℕ → Bool
   pub steps : ℕ
+  -- the stretch of event n, between two clock marks: the number of marks before it
+  pub stretch : ℕ → ℕ
   pub events : ℕ

@@ -30,7 +30,7 @@ Starts i [] = ⊥
 Starts i (x ∷ t) = x .event ≡ i
 
 module _ (M : Machine) where
-  open Machine M using (Config, start, committed, final, fire, steps, events)
+  open Machine M using (Config, start, committed, final, fire, steps, stretch, events)
 
   -- no step fires on event n
   abbrev pub Quiet : Config → ℕ → Type 0
@@ -54,12 +54,19 @@ module _ (M : Machine) where
   Follow c s [] e = c ≡ e
   Follow c s (x ∷ t) e = (d : Config) × Takes c s (x .event) (x .step) d × Follow d (suc (x .event)) t e
 
+  -- every event of the trail is of event i's stretch
+  abbrev pub Unbroken : ℕ → Trail → Type 0
+  Unbroken i [] = Unit {0}
+  Unbroken i (x ∷ t) = (stretch (x .event) ≡ stretch i) × Unbroken i t
+
   -- '1 to 32 steps on strictly rising events, the first on i, each firing from the configuration the last one left'
   pub record Steps (i : ℕ) (t : Trail) (e : Config) : Type 0 where
     pub least : 1 ≤ length t
     pub most : length t ≤ 32
     pub begins : Starts i t
     pub follows : Follow start i t e
+    -- 'No run has events on both sides of a mark'
+    pub unbroken : Unbroken i t
 
   -- 'A run from event i has' these 'and ends in accept or reject.'
   pub record Run (i : ℕ) (t : Trail) (e : Config) : Type 0 where

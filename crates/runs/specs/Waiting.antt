@@ -9,7 +9,7 @@ use Rattle.runs.specs.Machine.{Machine}
 use Rattle.runs.specs.Run.{Trail, last, Quiet, Partial}
 
 module _ (M : Machine) where
-  open Machine M using (Config, committed, expired, steps)
+  open Machine M using (Config, committed, expired, steps, stretch)
 
   -- some step is not expired (hopeless) after n
   pub record Hopeful (c : Config) (n : ℕ) : Type 0 where
@@ -26,6 +26,8 @@ module _ (M : Machine) where
     pub upto : last trail ≤ n
     pub patient : committed c ≡ true → (m : ℕ) → last trail < m → m ≤ n → Quiet M c m
     pub hope : Hopeful c n
+    -- '.. and no configuration waits across one'
+    pub unbroken : stretch n ≡ stretch i
 
   -- exactly k configurations wait after n: a list without repeats of just these, k long
   pub record Count (i n k : ℕ) : Type 0 where

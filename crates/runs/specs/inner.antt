@@ -4,5 +4,5 @@ pub mod Laws
 pub mod Order
 pub mod Search
 pub mod Threads
-pub mod Range
+pub mod Moved
 pub mod Demand

@@ -3,3 +3,5 @@ pub mod Checks
 pub mod Premises
 pub mod Demand
 pub mod AsBefore
+pub mod Unmarked
+pub mod Alone

@@ -264,6 +264,30 @@ const FALL: [u8; 20] = *b"\x01\x01\
     \x02\x00\x00\x02\x57\
     \x00";
 
+// L with a mark between its events.
+const PARTED: [u8; 24] = *b"\x01\x01\x01\x00\
+    \x02\x00\x00\x01\xF4\x00\x00\x00\x01\
+    \x04\
+    \x02\x00\x00\x01\xF4\x00\x00\x00\x02\
+    \x00";
+
+// A trip at 500 and an open at 510, two marks, a trip at 5 and an open at 9.
+const AGAIN: [u8; 43] = *b"\x01\x01\x01\x00\
+    \x02\x00\x00\x01\xF4\x00\x00\x00\x01\
+    \x02\x00\x00\x01\xFE\x00\x00\x00\x02\
+    \x04\x04\
+    \x02\x00\x00\x00\x05\x00\x00\x00\x01\
+    \x02\x00\x00\x00\x09\x00\x00\x00\x02\
+    \x00";
+
+// LATE with a mark behind the time 600.
+const RESET: [u8; 22] = *b"\x01\x01\
+    \x03\x01\x00\x00\x02\x58\
+    \x04\
+    \x03\x00\x00\x00\x00\x00\
+    \x03\x00\x00\x00\x00\x00\
+    \x00";
+
 // Binds the time; the guard is 0, and names the variable in the branch not taken.
 const CHOICE: [u8; 34] = *b"\x10\x00\x11\x01\
     \x10\x00\x11\x02\x14\x00\x01\
@@ -333,6 +357,19 @@ fn show_absent() {
     show_with(b"fall F", &FALL, &F, 0, 192);
 }
 
+// Marks: no run goes across one, what waits before it waits no longer, and a time before it expires no step behind it.
+fn show_marks() {
+    show_with(b"parted F", &PARTED, &F, 0, 192);
+    show_with(b"parted F", &PARTED, &F, 1, 192);
+    show_with(b"again F", &AGAIN, &F, 0, 192);
+    show_with(b"again F", &AGAIN, &F, 2, 192);
+    show_with(b"again F", &AGAIN, &F, 4, 192);
+    show_with(b"reset before", &RESET, &BEFORE, 0, 192);
+    show_with(b"reset before", &RESET, &BEFORE, 1, 192);
+    show_with(b"reset before", &RESET, &BEFORE, 1, 384);
+    show_with(b"reset before", &RESET, &BEFORE, 1, 576);
+}
+
 fn main() {
     show_bench();
     show_empty();
@@ -340,4 +377,5 @@ fn main() {
     show_widths();
     show_runs();
     show_absent();
+    show_marks();
 }

@@ -27,7 +27,7 @@ use Rattle.search.specs.declared.SearchAnswer.{SearchAnswer}
 use Rattle.search.specs.Search.{slotsOf, refusal, checked, answered, searchAnswer}
 use Rattle.search.specs.Call.{Untouched}
 use Rattle.search.proofs.Demand.{only-crowded}
-use Rattle.search_code.specs.inner.Turn.{seenTo, scopeOf, Given, SearchedFrom}
+use Rattle.search_code.specs.inner.Turn.{scopeOf, Given, Told, SearchedFrom}
 use Rattle.search_code.specs.inner.Checks.{CheckedIs}
 
 -- the slots fit the words, and there is one at least
@@ -69,15 +69,15 @@ module _ (l f : List ℕ) (files : FilesReading) (start : ℕ) (work : List ℕ)
       let k : start < length ((logOf t) .events) = omega (arith, ap (λ (x : LogReading). x .events) (a .log-read)) in
       (q ∙ rw (lt-leb (length ((logOf t) .events)) start k, lt-ltb (length work) 192 w), λ why v u. refl)
 
-  pub searched : (slots : ℕ) (after : List ℕ) (seen : Latest) (r : SearchAnswer) → start < files .log .events → 192 ≤ length work
-      → slots ≡ slotsOf (length work) → seen ≡ seenTo l (files .log .places) (files .log .fields) start
-      → SearchedFrom l (files .log .places) f (files .formula .table) (scopeOf (files .log) (files .formula) slots) start seen r
+  pub searched : (slots end : ℕ) (after : List ℕ) (seen : Latest) (r : SearchAnswer) → 192 ≤ length work → slots ≡ slotsOf (length work)
+      → Told l (files .log .places) (scopeOf (files .log) (files .formula) slots) start end seen
+      → SearchedFrom l (files .log .places) f (files .formula .table) (scopeOf (files .log) (files .formula) slots) start end seen r
       → CheckedIs l f files start work after r
   unfolding checked LogRead.answerOf
-  searched slots after seen r h w n e s t fm a =
+  searched slots end after seen r w n d s t fm a =
       let g = logOf t in
-      let k : start < length (g .events) = omega (arith, ap (λ (x : LogReading). x .events) (a .log-read)) in
-      let answer = s g fm (handed t fm l f (files .log) (files .formula) slots a) h e in (
+      let k : start < length (g .events) = omega (arith, d .there, ap (λ (x : LogReading). x .events) (a .log-read)) in
+      let answer = s g fm (handed t fm l f (files .log) (files .formula) slots a) d in (
         rw (lt-leb (length (g .events)) start k, le-ltb (length work) 192 w, ← n) answer,
         λ why v u. absurd (only-crowded g fm (search (machine g fm) slots start) why (ap (λ (x : SearchAnswer). x .verdict) (sym answer) ∙ v) u),
       )

@@ -1,5 +1,5 @@
 -- A correct log and a correct formula keep what the theory of runs asks of their machine, so that the list of threads gives the search's answer.
-use Prim.Native.Nat.{ℕ, _≤_, zero-le}
+use Prim.Native.Nat.{ℕ, _≤_}
 use mathlib.Core.Path.{_≡_}
 use lib.ListN.{length}
 use Rattle.event_log.specs.Log.{Log}
@@ -10,9 +10,9 @@ use Rattle.runs.specs.inner.Search.{search}
 use Rattle.runs.specs.inner.Threads.{threads}
 use Rattle.runs.proofs.Select.{threads-search}
 use Rattle.machine.specs.Machine.{machine}
-use Rattle.machine.proofs.Premises.{keeps, keeps-first}
+use Rattle.machine.proofs.Premises.{keeps}
 
 module _ (g : Log) (fm : Formula) (log : LogCorrect.Recorded g) (formula : FormulaCorrect.Correct (length (g .fields)) fm) where
   -- the list of threads gives the search's answer
   pub threads-give : (slots i : ℕ) → i ≤ length (g .events) → threads (machine g fm) slots i ≡ search (machine g fm) slots i
-  threads-give slots i h = threads-search (machine g fm) (keeps g fm log formula) slots i (rw (keeps-first g fm log formula) zero-le) h
+  threads-give slots i h = threads-search (machine g fm) (keeps g fm log formula) slots i h

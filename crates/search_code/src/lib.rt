@@ -18,14 +18,12 @@ ghost use mathlib.Core.Bool.{cond};
 ghost use mathlib.Core.List.{List, [], _∷_};
 ghost use Prim.Native.Nat.{ℕ, _+_, _*_, _≤_, _<_, max};
 ghost use lib.ListN.{length, getD};
-ghost use Rattle.event_log.specs.inner.Loading.{loadedAt};
-ghost use Rattle.event_log.specs.inner.Carrying.{laterOf};
 ghost use lib.Dec.{eqb};
 ghost use Rattle.slots.specs.inner.Threads.{originThread};
 ghost use Rattle.slots.specs.inner.Words.{list};
 ghost use Rattle.search.specs.Search.{slotsOf, without, refusal};
 ghost use Rattle.search.specs.Call.{Searched};
-ghost use Rattle.search_code.specs.inner.Turn.{entriesOf, verdictAt, namedAnswer, seenTo, momentOf, TurnIs, TurnOf, Fits, scopeOf, SearchedFrom};
+ghost use Rattle.search_code.specs.inner.Turn.{entriesOf, verdictAt, namedAnswer, seenNext, seenTo, stretchEnd, momentOf, TurnIs, TurnOf, Fits, scopeOf, SearchedFrom};
 ghost use Rattle.threads.specs.inner.Setting.{Wide};
 ghost use Rattle.threads.specs.inner.Event.{Seated};
 ghost use Rattle.search_code.specs.inner.Checks.{CheckedIs};
@@ -165,13 +163,16 @@ fn moment_of(n: usize, seen: Latest, event: Event) -> Moment
     }
 }
 
-// The last present values behind event n, from those before it.
+// The last present values behind event n, from those before it; a clock mark behind it leaves none.
 pub fn seen_after(l: &[u8], places: &[usize; 1024], scope: Scope, n: usize, seen: Latest) -> Latest
     requires { ⌜ (n < 1024) × (length (now places) ≡ 1024) ⌝ }
-    ensures { λ r. ⌜ r ≡ laterOf seen ((loadedAt (now (l .entry)) (scope .rules .fields) (getD (now (places .entry)) n 0)) .event) ⌝ }
+    ensures { λ r. ⌜ r ≡ seenNext (now (l .entry)) (scope .rules .fields) (getD (now (places .entry)) n 0) seen ⌝ }
 {
     let rules = scope.rules;
     let loaded = event_log::event_at(l, rules.fields, places[n]);
+    if event_log::mark_at(l, loaded.next) {
+        return event_log::none_seen();
+    }
     let event = loaded.event;
     event_log::later(seen, event)
 }
@@ -188,6 +189,23 @@ fn seen_before(l: &[u8], places: &[usize; 1024], scope: Scope, start: usize) -> 
         n += 1;
     }
     seen
+}
+
+// Where the stretch of a start ends: behind the first event that a clock mark follows.
+pub fn stretch_end(l: &[u8], places: &[usize; 1024], scope: Scope, start: usize) -> usize
+    requires { ⌜ (start ≤ scope .events) × (scope .events ≤ 1024) × (length (now places) ≡ 1024) ⌝ }
+    ensures { λ r. ⌜ (r ≡ stretchEnd (now (l .entry)) (now (places .entry)) scope start) × (r ≤ scope .events) ⌝ }
+{
+    let rules = scope.rules;
+    let mut n = start;
+    while n < scope.events {
+        let loaded = event_log::event_at(l, rules.fields, places[n]);
+        n += 1;
+        if event_log::mark_at(l, loaded.next) {
+            return n;
+        }
+    }
+    n
 }
 
 // One event: the least run that ends on it; else the waiting list after it, in the other half, or crowded.
@@ -248,14 +266,15 @@ fn at_event(
 }
 
 // The next event to look at: none any more where nobody waits.
-fn onward(n: usize, more: usize, events: usize) -> usize
-    requires { ⌜ n < events ⌝ }
-    ensures { λ r. ⌜ (r ≡ cond (eqb more 0) events (n + 1)) × (n < r) ⌝ }
+fn onward(n: usize, more: usize, end: usize) -> usize
+    requires { ⌜ n < end ⌝ }
+    ensures { λ r. ⌜ (r ≡ cond (eqb more 0) end (n + 1)) × (n < r) ⌝ }
 {
-    if more == 0 { events } else { n + 1 }
+    if more == 0 { end } else { n + 1 }
 }
 
-// The search from one event of an accepted log with an accepted formula, event by event; `before` has the last present values before it.
+// The search from one event of an accepted log with an accepted formula, event by event up to the end of its stretch; `before` has the last present
+// values before it.
 pub fn search_from(
     l: &[u8],
     places: &[usize; 1024],
@@ -263,28 +282,32 @@ pub fn search_from(
     table: &[usize; 128],
     scope: Scope,
     start: usize,
+    end: usize,
     before: Latest,
     work: &mut [u32],
 ) -> SearchAnswer
-    requires { ⌜ (scope .slots * 192 ≤ length (now work)) × (1 ≤ scope .slots) × (scope .events ≤ 1024) × (length (now places) ≡ 1024) ⌝ }
-    ensures { λ r. ⌜ SearchedFrom (now (l .entry)) (now (places .entry)) (now (f .entry)) (now (table .entry)) scope start before r ⌝ }
+    requires { ⌜ (scope .slots * 192 ≤ length (now work)) × (1 ≤ scope .slots) × (end ≤ 1024) × (length (now places) ≡ 1024) ⌝ }
+    ensures { λ r. ⌜ SearchedFrom (now (l .entry)) (now (places .entry)) (now (f .entry)) (now (table .entry)) scope start end before r ⌝ }
     ensures { λ r. ⌜ (r .width ≤ scope .slots) × (length (now (work .exit)) ≡ length (now (work .entry))) ⌝ }
 {
     origin_in(work);
     let wide = threads::table::widened(table);
     let rules = scope.rules;
-    let slots = scope.slots;
     let mut half: usize = 0;
     let mut count: usize = 1;
     let mut width: usize = 0;
     let mut seen = before;
     let mut n = start;
-    while n < scope.events {
+    while n < end {
         let loaded = event_log::event_at(l, rules.fields, places[n]);
         let event = loaded.event;
         let moment = moment_of(n, seen, event);
         seen = moment.latest;
-        let seats = Seats { half, count, slots };
+        let seats = Seats {
+            half,
+            count,
+            slots: scope.slots,
+        };
         let turn = at_event(work, seats, l, places, f, &wide, rules, moment);
         let outcome = turn.outcome;
         match outcome {
@@ -294,7 +317,7 @@ pub fn search_from(
                 count = more;
                 width = larger(width, more);
                 half = 1 - half;
-                n = onward(n, more, scope.events);
+                n = onward(n, more, end);
             }
         }
     }
@@ -345,7 +368,8 @@ fn checked(l: &[u8], f: &[u8], files: FilesReading, start: usize, work: &mut [u3
     let table = formula.table;
     let scope = scope_of(log, formula, slots_of(words));
     let seen = seen_before(l, &places, scope, start);
-    search_from(l, &places, f, &table, scope, start, seen, work)
+    let end = stretch_end(l, &places, scope, start);
+    search_from(l, &places, f, &table, scope, start, end, seen, work)
 }
 
 // The search from an event, over the bytes of the two files, with threads in the lent words.

@@ -10,9 +10,9 @@ use native.Mathlib.Decide.{decLt}
 use lib.ListN.{length, getD, List·getD-eq-default, List·getD-map}
 use Rattle.base.specs.Lists.{pad}
 use Rattle.base.proofs.Lists.{length-pad, getD-pad}
-use Rattle.event_log.specs.Log.{Log, Kind, plain, rising, orZero, field, eventAt}
+use Rattle.event_log.specs.Log.{Log, Kind, plain, rising, orZero, field, eventAt, stretchAt}
 use Rattle.event_log.specs.Arrays.{inEvent, inLatest}
-use Rattle.event_log.specs.Latest.{latest}
+use Rattle.event_log.specs.Latest.{latestAt}
 use Rattle.event_log.specs.declared.Event.{Event}
 use Rattle.event_log.specs.declared.Latest.{Latest}
 use Rattle.event_log.proofs.LastSeen.{length-event, length-latest}
@@ -69,11 +69,11 @@ module _ (g : Log) (fm : Formula) (f table : List ℕ) (rules : Rules) (s : Sett
     pub event-fields : (i : ℕ) → getD (inEvent (m .event)) i none ≡ getD ((eventAt g (m .number)) .values) i none
     event-fields i = ap (λ (e : Event). getD (inEvent e) i none) (l .event-is) ∙ shown ((eventAt g (m .number)) .values) short i
 
-    few : length (latest g (suc (m .number))) ≤ 8
-    few = omega (arith, s .log .most-fields, length-latest g (s .log) (suc (m .number)) (omega (arith, l .there)))
+    few : length (latestAt g (m .number)) ≤ 8
+    few = omega (arith, s .log .most-fields, length-latest g (s .log) (stretchAt g (m .number)) (suc (m .number)) (omega (arith, l .there)))
 
-    pub latest-fields : (i : ℕ) → getD (inLatest (m .latest)) i none ≡ getD (latest g (suc (m .number))) i none
-    latest-fields i = ap (λ (x : Latest). getD (inLatest x) i none) (l .latest-is) ∙ shown (latest g (suc (m .number))) few i
+    pub latest-fields : (i : ℕ) → getD (inLatest (m .latest)) i none ≡ getD (latestAt g (m .number)) i none
+    latest-fields i = ap (λ (x : Latest). getD (inLatest x) i none) (l .latest-is) ∙ shown (latestAt g (m .number)) few i
 
     -- the arrays have the values
     pub event-values : (i : ℕ) → i < 8 → getD (m .event .values) i 0 ≡ field (inEvent (m .event)) i
@@ -82,7 +82,7 @@ module _ (g : Log) (fm : Formula) (f table : List ℕ) (rules : Rules) (s : Sett
 
     pub latest-values : (i : ℕ) → i < 8 → getD (m .latest .values) i 0 ≡ field (inLatest (m .latest)) i
     latest-values i h =
-        ap (λ (x : Latest). getD (x .values) i 0) (l .latest-is) ∙ value-shown (latest g (suc (m .number))) few i ∙ ap orZero (sym (latest-fields i))
+        ap (λ (x : Latest). getD (x .values) i 0) (l .latest-is) ∙ value-shown (latestAt g (m .number)) few i ∙ ap orZero (sym (latest-fields i))
 
 -- a kept thread's configuration is ready for the code
 pub ready-of : (g : Log) (fm : Formula) (t : Thread) → Fit g fm t → length (fm .states) ≤ 16 → Ready (t .config)

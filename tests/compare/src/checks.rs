@@ -162,6 +162,7 @@ impl Comparison {
         };
         self.counts.logs += 1;
         self.counts.log_refusal(&reference.refused, files.log);
+        self.counts.clock(files.log);
         compare("refusal", product.refused, reference.refused)
             .and_then(|()| compare("fields", product.fields, reference.fields))
             .and_then(|()| compare("events", product.events, reference.events))

@@ -1,6 +1,7 @@
 //! How much was compared, and what the compared cases reached.
 
 use crate::product::{Refused, ACCEPT, REJECT};
+use reference::reach::marks::{self, MET, OF_LOGS, READ};
 use reference::reach::{NAMES, REACHED};
 use std::fmt;
 
@@ -24,6 +25,10 @@ pub struct Counts {
     pub absent: [usize; REACHED],
     /// Refusals of the log at an event that may lack fields, by their number.
     pub lacking: [usize; 14],
+    /// Searches in which marks count, by the way that they do.
+    pub marks: [usize; MET],
+    /// Logs in which marks count, or are refused, likewise.
+    pub clocks: [usize; READ],
 }
 
 /// The numbers that such an event may have.
@@ -50,6 +55,19 @@ impl Counts {
         }
     }
 
+    pub fn marks(&mut self, met: &[bool; MET]) {
+        for (times, &met) in self.marks.iter_mut().zip(met) {
+            *times += usize::from(met);
+        }
+    }
+
+    /// What the bytes of a log show of marks.
+    pub fn clock(&mut self, log: &[u8]) {
+        for (times, shown) in self.clocks.iter_mut().zip(marks::read(log)) {
+            *times += usize::from(shown);
+        }
+    }
+
     /// What the cases did not reach, of what they have to reach.
     pub fn missing(&self) -> Option<String> {
         let reached = [
@@ -65,7 +83,10 @@ impl Counts {
         let mut lacking = OF_LACKING.into_iter();
         let lacking = lacking.find(|&number| self.lacking[number] == 0);
         let absent = NAMES.into_iter().zip(self.absent);
-        let mut other = reached.into_iter().chain(absent);
+        let marks = marks::NAMES.into_iter().zip(self.marks);
+        let clocks = OF_LOGS.into_iter().zip(self.clocks);
+        let marks = marks.chain(clocks);
+        let mut other = reached.into_iter().chain(absent).chain(marks);
         match (refusal, lacking) {
             (Some(number), _) => Some(format!("refusal {number}")),
             (_, Some(number)) => Some(format!("refusal {number} at a 03")),
@@ -86,21 +107,51 @@ impl Counts {
     }
 }
 
+/// Each name with its number.
+fn named(names: &[&str], times: &[usize]) -> String {
+    let pairs = names.iter().zip(times);
+    let texts: Vec<String> = pairs
+        .map(|(name, times)| format!("{name} {times}"))
+        .collect();
+    texts.join(", ")
+}
+
+/// Refusals of these numbers, each with how often it was met.
+fn numbered(numbers: impl Iterator<Item = usize>, times: &[usize]) -> String {
+    let text = |number: usize| format!("{}:{}", number, times[number]);
+    numbers.map(text).collect::<Vec<String>>().join(" ")
+}
+
+impl Counts {
+    fn write_absent(&self, out: &mut fmt::Formatter) -> fmt::Result {
+        let [over, kept, beside, older, before, test, guard] = self.absent;
+        write!(
+            out,
+            "; absent fields in searches: {over} with a run over them, {kept} kept from firing, \
+             {beside} fired beside, {older} hopeless by an older value, {before} by one before \
+             the start, {test} tests and {guard} guards let off; refusals at a 03 {}",
+            numbered(OF_LACKING.into_iter(), &self.lacking)
+        )
+    }
+
+    fn write_marks(&self, out: &mut fmt::Formatter) -> fmt::Result {
+        write!(
+            out,
+            "; marks in searches: {}; in logs: {}",
+            named(&marks::NAMES, &self.marks),
+            named(&OF_LOGS, &self.clocks)
+        )
+    }
+}
+
 impl fmt::Display for Counts {
     fn fmt(&self, out: &mut fmt::Formatter) -> fmt::Result {
-        let refusals: Vec<String> = (1..self.refusals.len())
-            .map(|number| format!("{}:{}", number, self.refusals[number]))
-            .collect();
-        let lacking = OF_LACKING.map(|number| format!("{}:{}", number, self.lacking[number]));
-        let [over, kept, beside, older, before, test, guard] = self.absent;
         let [none, alert, subsumed, rejected] = self.rows;
         write!(
             out,
             "{} cases agree: {} logs, {} formulas read; {} searches: {} accept, {} reject, \
-             {} none, up to {} steps and width {}; {} analyses: rows {} none, {} alert, \
-             {} subsumed, {} rejected; refusals {}; absent fields in searches: {} with a run over \
-             them, {} kept from firing, {} fired beside, {} hopeless by an older value, {} by \
-             one before the start, {} tests and {} guards let off; refusals at a 03 {}",
+             {} none, up to {} steps and width {}; {} analyses: rows {none} none, {alert} alert, \
+             {subsumed} subsumed, {rejected} rejected; refusals {}",
             self.cases,
             self.logs,
             self.formulas,
@@ -111,19 +162,9 @@ impl fmt::Display for Counts {
             self.longest,
             self.widest,
             self.analyses,
-            none,
-            alert,
-            subsumed,
-            rejected,
-            refusals.join(" "),
-            over,
-            kept,
-            beside,
-            older,
-            before,
-            test,
-            guard,
-            lacking.join(" ")
-        )
+            numbered(1..self.refusals.len(), &self.refusals),
+        )?;
+        self.write_absent(out)?;
+        self.write_marks(out)
     }
 }

@@ -5,6 +5,7 @@ mod absent;
 mod fault;
 mod lists;
 mod logs;
+mod marks;
 
 pub use fault::{switch, Fault};
 
@@ -153,7 +154,8 @@ fn own(log: &[u8], formula: &[u8], start: usize, words: usize) -> Result<Answer,
         log: &log,
         formula: &formula,
     };
-    search::answer(&setting, &lists::search(&setting, start, seats))
+    let answer = search::answer(&setting, &lists::search(&setting, start, seats));
+    answer.map(|answer| marks::numbered(setting.log, start, answer))
 }
 
 /// A search in which more than 64 seats count.
@@ -294,7 +296,10 @@ unsafe extern "C" fn hikwallu_analyse(
     spoil_work(&answer, work, work_len);
     let events = Log::read(log).map_or(0, |log| log.events());
     match answer {
-        None => spoil_rows(&mut lent[..12 * events], &before),
+        None => {
+            spoil_rows(&mut lent[..12 * events], &before);
+            marks::spoil_rows(log, &mut lent[..12 * events]);
+        }
         Some(refusal) => spoil_refused_rows(&refusal, lent, &before),
     }
     if answer.is_none() && has(Fault::RowsBehind) && rows_len > 12 * events {

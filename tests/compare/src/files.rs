@@ -23,8 +23,8 @@ impl Pair {
 }
 
 /// The bench's log with both its formulas, its events exchanged, its log of
-/// three events, tied and not, a formula that gathers, and two logs whose
-/// events lack fields.
+/// three events, tied and not, a formula that gathers, two logs whose events
+/// lack fields, and one whose clock was set.
 pub fn examples() -> Vec<Pair> {
     let log = "0101 0100 02000001F400000001 02000001F400000002 00";
     let exchanged = "0101 0100 02000001F400000002 02000001F400000001 00";
@@ -36,6 +36,8 @@ pub fn examples() -> Vec<Pair> {
         "1000 1101 170008 17010B 1000 1102 170008 15 29 25 2E0B 2D08 25 20000001F4 2C08 1002 00";
     let timeless = "0101 0100 02000001F400000001 03020000000000000001 0303000001F900000002 00";
     let bare = "0101 0100 0301000001F400000000 03000000000000000000 03020000000000000002 00";
+    let set = "0101 0100 02000001F400000001 02000001FE00000002 04 \
+               020000000500000001 04 04 03020000000000000001 020000000900000002 04 00";
     let soon = "1000 1101 1000 1102 12000200000200 140001 170008 15 \
                 2B 25 2D08 2000000002 25 2101 20000001F4 26 2C08 2000000400 1002 00";
     let pairs = [
@@ -47,6 +49,8 @@ pub fn examples() -> Vec<Pair> {
         (log, gathers),
         (timeless, opens),
         (bare, soon),
+        (set, opens),
+        (set, soon),
     ];
     let pair = |(log, formula)| Pair {
         log: hex(log),
@@ -108,6 +112,7 @@ pub fn everything() -> Pair {
         &[None, Some(3), Some(12)],
         &[Some(9), Some(2), Some(40)],
     ];
+    let set: [&[Option<u32>]; 2] = [&[Some(3), Some(1), Some(8)], &[Some(3), Some(3), None]];
     let formula = file(&[
         join(&[tied(0), tied(2), tied(0)]),
         join(&[state(0), step(1), test(1, 4, 1), bind(0, 0), bind(1, 2)]),
@@ -123,7 +128,7 @@ pub fn everything() -> Pair {
         join(&[state(2), state(3)]),
     ]);
     Pair {
-        log: log_lacking(&[1, 0, 1], &events),
+        log: log_marked(&[1, 0, 1], &[&events, &set]),
         formula,
     }
 }

@@ -1,11 +1,12 @@
 //! Rolled cases whose guards put any command anywhere: numbers under AND, OR,
 //! NOT and the condition of IF, truth values under ADD, SUB and EQUAL; half of
-//! them gather, and in a third events lack fields.
+//! them gather, in a third events lack fields, and in a fifth the clock was
+//! set.
 
 use reference::analysis::ROW_WORDS;
 use reference::compose::*;
 use reference::formula::MOST_COMMANDS;
-use reference::random::{thin, Case, Dice};
+use reference::random::{mark, thin, Case, Dice};
 use reference::search::SEAT_WORDS;
 use std::ops::Range;
 
@@ -26,6 +27,11 @@ pub fn case(seed: u64) -> Case {
     let mut log = log_of(&mut dice, events);
     if dice.chance(33) {
         thin(&mut dice, &mut log);
+    }
+    // Rolled apart, so that the other cases come as they are.
+    let mut clock = Dice::new(seed ^ 0xC10C_6A4D_0000);
+    if clock.chance(20) {
+        mark(&mut clock, &mut log);
     }
     Case {
         log,

@@ -11,6 +11,9 @@ pub enum Kind {
     /// The same, and every event is one that may lack fields: field 6 never
     /// arrives, field 5 is absent in every fourth event.
     Lacking,
+    /// As ordinary, and the clock is set behind every 128th event, by eight
+    /// marks running.
+    Clocked,
     /// About 60 threads wait behind guards of 31 commands, for 10 events each.
     Guards,
     /// About 60 threads move on at every event through committed states.
@@ -29,9 +32,10 @@ pub enum Kind {
 }
 
 impl Kind {
-    pub const ALL: [Kind; 9] = [
+    pub const ALL: [Kind; 10] = [
         Kind::Ordinary,
         Kind::Lacking,
+        Kind::Clocked,
         Kind::Guards,
         Kind::Committed,
         Kind::Overlap,
@@ -45,6 +49,7 @@ impl Kind {
         match self {
             Kind::Ordinary => "ordinary",
             Kind::Lacking => "lacking",
+            Kind::Clocked => "clocked",
             Kind::Guards => "guards",
             Kind::Committed => "committed",
             Kind::Overlap => "overlap",
@@ -67,7 +72,7 @@ const AT_LEAST: u8 = 5;
 
 const TIME: u8 = 0;
 const CODE: u8 = 2;
-const MARK: u8 = 4;
+const FLAG: u8 = 4;
 
 const REJECT_STATE: u8 = 14;
 const ACCEPT_STATE: u8 = 15;
@@ -79,7 +84,7 @@ pub fn pair(kind: Kind, events: usize) -> Pair {
         _ => 128,
     };
     let states = match kind {
-        Kind::Ordinary | Kind::Lacking => ordinary(),
+        Kind::Ordinary | Kind::Lacking | Kind::Clocked => ordinary(),
         Kind::Guards => guards(),
         Kind::Committed => committed(),
         Kind::Overlap => overlap(),
@@ -89,23 +94,26 @@ pub fn pair(kind: Kind, events: usize) -> Pair {
         Kind::Gather => gathering(),
     };
     Pair {
-        log: log_of(events as u32, period as u32, kind == Kind::Lacking),
+        log: log_of(events as u32, period as u32, kind),
         formula: file(&states),
     }
 }
 
 /// Time, when threads grow old, one of 60 codes, when the start grows old, a
-/// mark on the last event of each period, and three more; some may be absent.
-fn log_of(events: u32, period: u32, lack: bool) -> Vec<u8> {
+/// flag on the last event of each period, and three more; some may be absent,
+/// and the clock may be set behind each period.
+fn log_of(events: u32, period: u32, kind: Kind) -> Vec<u8> {
+    let lack = kind == Kind::Lacking;
     let mut parts: Vec<Vec<u8>> = [1, 1, 0, 1, 0, 0, 1, 0].map(field).to_vec();
     for n in 0..events {
         let code = n * 7 % 60;
-        let mark = u32::from(n % period == period - 1);
-        let values = [n, n + 10, code, n + 11, mark, n % 3, n / 3, n * n];
+        let flag = u32::from(n % period == period - 1);
+        let values = [n, n + 10, code, n + 11, flag, n % 3, n / 3, n * n];
         let mut kept = values.map(Some);
         kept[6] = None;
         kept[5] = kept[5].filter(|_| n % 4 != 1);
         parts.push(if lack { lacking(&kept) } else { event(&values) });
+        parts.extend((kind == Kind::Clocked && flag == 1).then(|| vec![0x04; 8]));
     }
     file(&parts)
 }
@@ -117,7 +125,7 @@ fn seven() -> Vec<u8> {
         test(1, AT_LEAST, 10),
         test(CODE, UNEQUAL, 60),
         test(3, AT_LEAST, 11),
-        test(MARK, UNEQUAL, 2),
+        test(FLAG, UNEQUAL, 2),
         test(5, UNEQUAL, 3),
         test(7, UNEQUAL, 3),
     ])
@@ -158,7 +166,7 @@ fn rest(from: u8, kind: u8) -> Vec<u8> {
     join(&[idle.concat(), state(3), state(2)])
 }
 
-/// Every code starts a thread in one of eight states; threads leave on a mark.
+/// Every code starts a thread in one of eight states; threads leave on a flag.
 fn ordinary() -> Vec<Vec<u8>> {
     let mut parts = vec![first(bind(TIME, 7)), state(0)];
     for number in 2..10 {
@@ -169,7 +177,7 @@ fn ordinary() -> Vec<Vec<u8>> {
         parts.push(join(&[step(number), eighth, range, bind(CODE, 0)]));
     }
     for number in 2..10 {
-        let leave = join(&[step(ACCEPT_STATE), seven(), test(MARK, EQUALS, 1)]);
+        let leave = join(&[step(ACCEPT_STATE), seven(), test(FLAG, EQUALS, 1)]);
         let next = if number == 9 { 10 } else { REJECT_STATE };
         parts.push(join(&[state(0), times(6, hopeless(next)), vain(10), leave]));
     }
@@ -217,14 +225,14 @@ fn guards() -> Vec<Vec<u8>> {
 }
 
 /// Two threads an event, each of which takes its last step on every event
-/// until it has taken 32 or there is a mark.
+/// until it has taken 32 or there is a flag.
 fn committed() -> Vec<Vec<u8>> {
     let mut parts = vec![first(bind(TIME, 7)), state(0), times(6, hopeless(2))];
     parts.push(join(&[step(2), seven(), bind(TIME, 0)]));
     parts.push(join(&[step(8), seven(), bind(TIME, 0)]));
     for number in 2..REJECT_STATE {
         let next = if number == 13 { 2 } else { number + 1 };
-        let leave = join(&[step(ACCEPT_STATE), seven(), test(MARK, EQUALS, 1)]);
+        let leave = join(&[step(ACCEPT_STATE), seven(), test(FLAG, EQUALS, 1)]);
         let move_on = join(&[step(next), seven(), test(CODE, UNEQUAL, 60)]);
         let others = times(6, hopeless(REJECT_STATE));
         parts.push(join(&[state(1), others, leave, move_on]));
@@ -236,9 +244,9 @@ fn committed() -> Vec<Vec<u8>> {
 /// All eight variables are tied; the last one differs from start to start.
 fn overlap() -> Vec<Vec<u8>> {
     let mut parts: Vec<Vec<u8>> = (0..8).map(tied).collect();
-    let same: Vec<Vec<u8>> = (0..7).map(|variable| bind(MARK, variable)).collect();
+    let same: Vec<Vec<u8>> = (0..7).map(|variable| bind(FLAG, variable)).collect();
     parts.push(first(join(&[same.concat(), bind(TIME, 7)])));
-    let leave = join(&[step(ACCEPT_STATE), seven(), test(MARK, EQUALS, 1)]);
+    let leave = join(&[step(ACCEPT_STATE), seven(), test(FLAG, EQUALS, 1)]);
     parts.push(join(&[state(0), times(6, hopeless(2)), vain(2), leave]));
     parts.push(rest(2, 0));
     parts

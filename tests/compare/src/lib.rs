@@ -11,6 +11,7 @@ pub mod guards;
 pub mod heavy;
 pub mod lacking;
 pub mod lent;
+pub mod marks;
 pub mod page;
 pub mod product;
 pub mod program;

@@ -5,6 +5,7 @@ use crate::checks::{Check, Disagreement};
 use crate::files::{self, Pair};
 use crate::guards;
 use crate::lacking;
+use crate::marks;
 use crate::page::{Call, Example};
 use reference::log::MOST_EVENTS;
 use reference::program::text;
@@ -55,9 +56,14 @@ impl Runner {
             files::longest(1),
             lacking::longest(0),
             lacking::longest(1),
+            marks::longest(0),
+            marks::longest(1),
             files::wordy(),
         ];
         for pair in pairs {
+            self.run(Some(pair.log), Some(pair.formula))?;
+        }
+        for pair in [marks::broken(), marks::stretches()].concat() {
             self.run(Some(pair.log), Some(pair.formula))?;
         }
         for events in [64, 65] {
@@ -105,7 +111,7 @@ impl Runner {
     fn long(&mut self, pair: &Pair) -> Check {
         let behind = |bytes: &[u8], byte: u8| [bytes, &[byte; 70_000]].concat();
         let (log, formula) = (&pair.log, &pair.formula);
-        for byte in [0, 1, 2, 3, 0x10, 0x16] {
+        for byte in [0, 1, 2, 3, 4, 0x10, 0x16] {
             self.run(Some(behind(log, byte)), Some(formula.clone()))?;
             self.run(Some(log.clone()), Some(behind(formula, byte)))?;
             self.run(Some(vec![byte; 70_000]), Some(formula.clone()))?;

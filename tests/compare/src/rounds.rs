@@ -6,10 +6,12 @@ use crate::files::{self, Pair};
 use crate::guards;
 use crate::heavy::{self, Kind};
 use crate::lacking;
+use crate::marks;
 use reference::analysis::ROW_WORDS;
 use reference::log::Log;
 use reference::machine::Setting;
 use reference::random::{self, Case};
+use reference::reach::marks::met;
 use reference::reach::reached;
 use reference::search::{read_both, MOST_SEATS, SEAT_WORDS};
 
@@ -31,7 +33,7 @@ const ALL_SEATS: usize = MOST_SEATS * SEAT_WORDS;
 const FEW_EVENTS: usize = 16;
 
 /// Searches from so many starts, with up to so many runs, are asked where
-/// absent fields count in them.
+/// absent fields and marks count in them.
 const FEW_STARTS: usize = 4;
 const FEW_RUNS: usize = 300;
 
@@ -80,14 +82,15 @@ fn case(comparison: &mut Comparison, case: &Case) -> Check {
     if read_both(files.log, files.formula).is_err() {
         return refused_files(comparison, files);
     }
-    absent_fields(comparison, files);
+    told(comparison, files);
     starts(comparison, files)?;
     work_words(comparison, files, case)?;
     row_words(comparison, files)
 }
 
-/// Tells where absent fields count in searches from the first events.
-fn absent_fields(comparison: &mut Comparison, files: Files) {
+/// Tells where absent fields count in searches from the first events, and
+/// marks in those from the first events of a stretch too.
+fn told(comparison: &mut Comparison, files: Files) {
     let Ok((log, formula)) = read_both(files.log, files.formula) else {
         return;
     };
@@ -99,6 +102,12 @@ fn absent_fields(comparison: &mut Comparison, files: Files) {
     for start in (0..log.events().min(FEW_STARTS)).filter(|_| lacking) {
         let reached = reached(&setting, start, FEW_RUNS);
         comparison.counts.absent(&reached.unwrap_or_default());
+    }
+    let is_first = |n: &usize| *n < FEW_STARTS || !log.one_stretch(*n - 1, *n);
+    let starts = (0..log.events()).filter(is_first).take(2 * FEW_STARTS);
+    for start in starts.filter(|_| log.marks > 0) {
+        let met = met(&setting, start, FEW_RUNS);
+        comparison.counts.marks(&met.unwrap_or_default());
     }
 }
 
@@ -240,22 +249,61 @@ fn brief(comparison: &mut Comparison, files: Files) -> Check {
     comparison.analysis(files, 4 * SEAT_WORDS, ROW_WORDS * events(files) + 5)
 }
 
-/// Absent states, broken events, fields that never arrive, events and seats at
-/// their limits, heavy formulas on shorter logs.
+/// Absent states, broken events and marks, fields that never arrive, events,
+/// marks and seats at their limits, heavy formulas on shorter logs.
 pub fn limits(comparison: &mut Comparison) -> Check {
-    for pair in [files::absent(), lacking::broken()].concat() {
+    for pair in [files::absent(), lacking::broken(), marks::broken()].concat() {
         brief(comparison, pair.files())?;
     }
     for pair in lacking::unarrived() {
         brief(comparison, pair.files())?;
         starts(comparison, pair.files())?;
     }
-    let longest = |over: usize| [files::longest(over), lacking::longest(over)];
-    for pair in [longest(0), longest(1)].concat() {
+    stretches(comparison)?;
+    longest(comparison)?;
+    crowds(comparison)?;
+    for kind in Kind::ALL {
+        let pair = heavy::pair(kind, 200);
         brief(comparison, pair.files())?;
-        comparison.analysis(pair.files(), ALL_SEATS, ROW_WORDS * 1024 - 1)?;
-        comparison.search(pair.files(), 1023, SEAT_WORDS)?;
+        comparison.search(pair.files(), 100, ALL_SEATS)?;
+        comparison.analysis(pair.files(), ALL_SEATS, ROW_WORDS * 200)?;
     }
+    Ok(())
+}
+
+/// Every start of logs with marks, with few seats and with all.
+fn stretches(comparison: &mut Comparison) -> Check {
+    for pair in marks::stretches() {
+        told(comparison, pair.files());
+        brief(comparison, pair.files())?;
+        for start in 0..events(pair.files()) {
+            for seats in [1, 2, 3, MOST_SEATS] {
+                comparison.search(pair.files(), start, seats * SEAT_WORDS)?;
+            }
+        }
+    }
+    Ok(())
+}
+
+/// As many events and marks as may be, and one more.
+fn longest(comparison: &mut Comparison) -> Check {
+    for over in [0, 1] {
+        for pair in [
+            files::longest(over),
+            lacking::longest(over),
+            marks::longest(over),
+        ] {
+            brief(comparison, pair.files())?;
+            comparison.analysis(pair.files(), ALL_SEATS, ROW_WORDS * 1024 - 1)?;
+            comparison.analysis(pair.files(), ALL_SEATS, ROW_WORDS * 1024)?;
+            comparison.search(pair.files(), 1023, SEAT_WORDS)?;
+        }
+    }
+    Ok(())
+}
+
+/// Configurations around the number of seats.
+fn crowds(comparison: &mut Comparison) -> Check {
     for events in [MOST_SEATS - 1, MOST_SEATS, MOST_SEATS + 1, MOST_SEATS + 2] {
         let pair = files::crowd(events);
         comparison.counts.cases += 1;
@@ -265,12 +313,6 @@ pub fn limits(comparison: &mut Comparison) -> Check {
                 comparison.analysis(pair.files(), words, ROW_WORDS * events)?;
             }
         }
-    }
-    for kind in Kind::ALL {
-        let pair = heavy::pair(kind, 200);
-        brief(comparison, pair.files())?;
-        comparison.search(pair.files(), 100, ALL_SEATS)?;
-        comparison.analysis(pair.files(), ALL_SEATS, ROW_WORDS * 200)?;
     }
     Ok(())
 }

@@ -14,6 +14,8 @@ fn full_size() {
         let pair = pair(kind, 1024);
         let (log, formula) = read_both(&pair.log, &pair.formula).expect("accepted");
         assert_eq!((log.rising.len(), log.events()), (8, 1024));
+        let marks = if kind == Kind::Clocked { 64 } else { 0 };
+        assert_eq!(log.marks, marks);
         assert_eq!(formula.states.len(), 16);
         for state in &formula.states {
             let steps = if state.kind.ends() { 0 } else { 8 };
@@ -31,7 +33,7 @@ fn seats_nearly_full_and_never_crowded() {
         assert_eq!(answer, Ok(()), "{kind:?}");
         let found = search(&pair.log, &pair.formula, 5, WORDS).expect("no refusal");
         let least = match kind {
-            Kind::Ordinary | Kind::Lacking | Kind::Guards | Kind::Committed => 60,
+            Kind::Ordinary | Kind::Lacking | Kind::Clocked | Kind::Guards | Kind::Committed => 60,
             Kind::Overlap | Kind::Quiet => 1,
             Kind::Still => 0,
             Kind::Full => 59,

@@ -53,15 +53,28 @@ pub fn lacking(values: &[Option<u32>]) -> Vec<u8> {
     bytes
 }
 
+/// The clock was set.
+pub fn mark() -> Vec<u8> {
+    vec![0x04]
+}
+
 /// A log of the given field kinds; an event is one that may lack fields only
 /// where it does.
 pub fn log_lacking(kinds: &[u8], events: &[&[Option<u32>]]) -> Vec<u8> {
+    log_marked(kinds, &[events])
+}
+
+/// The same in stretches, with a mark before each but the first.
+pub fn log_marked(kinds: &[u8], stretches: &[&[&[Option<u32>]]]) -> Vec<u8> {
     let mut parts: Vec<Vec<u8>> = kinds.iter().map(|&kind| field(kind)).collect();
     let whole = |values: &[Option<u32>]| values.iter().copied().collect::<Option<Vec<u32>>>();
-    parts.extend(events.iter().map(|values| match whole(values) {
-        Some(values) => event(&values),
-        None => lacking(values),
-    }));
+    for (number, events) in stretches.iter().enumerate() {
+        parts.extend((number > 0).then(mark));
+        parts.extend(events.iter().map(|values| match whole(values) {
+            Some(values) => event(&values),
+            None => lacking(values),
+        }));
+    }
     file(&parts)
 }
 

@@ -7,13 +7,17 @@ mod expressions;
 mod families;
 mod formulas;
 mod gathering;
+mod layout;
 mod limits;
 mod logs;
+mod marked;
+mod marks;
 mod unarrived;
 mod windows;
 
 pub use absent::thin;
 pub use dice::Dice;
+pub use marks::mark;
 
 use crate::analysis::ROW_WORDS;
 use crate::log::Log;
@@ -29,8 +33,11 @@ pub struct Case {
     pub row_words: usize,
 }
 
+/// Marks are rolled apart, so that the same cases come without them.
+const CLOCK: u64 = 0xC10C_0000_0000;
+
 /// A case of any kind: good, at a limit, crowded, long or damaged; events of
-/// some logs lack fields.
+/// some logs lack fields, and in some the clock was set.
 pub fn case(seed: u64) -> Case {
     let mut dice = Dice::new(seed);
     let (mut log, mut formula) = match dice.below(32) {
@@ -47,6 +54,13 @@ pub fn case(seed: u64) -> Case {
     if dice.chance(30) {
         thin(&mut dice, &mut log);
     }
+    let mut clock = Dice::new(seed ^ CLOCK);
+    match clock.below(40) {
+        0..=4 => (log, formula) = marked::pair(&mut clock),
+        5 => (log, formula) = limits::marks(&mut clock),
+        6..=13 => mark(&mut clock, &mut log),
+        _ => {}
+    }
     let events = Log::read(&log).map_or(0, |log| log.events());
     match dice.below(10) {
         0 => damage::spoil(&mut dice, &mut log),
@@ -57,13 +71,15 @@ pub fn case(seed: u64) -> Case {
         }
         _ => {}
     }
-    call(&mut dice, log, formula, events)
+    let mut case = call(&mut dice, log, formula, events);
+    case.start = marked::start(&mut clock, &case.log).unwrap_or(case.start);
+    case
 }
 
 /// A small case that passes its checks nearly always and has few runs.
 pub fn small(seed: u64) -> Case {
     let mut dice = Dice::new(seed ^ 0x5EED_0000_0000);
-    let (mut log, formula) = match dice.below(17) {
+    let (mut log, mut formula) = match dice.below(17) {
         0 => families::ends(&mut dice),
         1 => families::crowd(&mut dice),
         2..=4 => windows::window(&mut dice),
@@ -74,8 +90,16 @@ pub fn small(seed: u64) -> Case {
     if dice.chance(35) {
         thin(&mut dice, &mut log);
     }
+    let mut clock = Dice::new(seed ^ CLOCK ^ 0x5EED);
+    match clock.below(20) {
+        0..=2 => (log, formula) = marked::pair(&mut clock),
+        3..=6 => mark(&mut clock, &mut log),
+        _ => {}
+    }
     let events = Log::read(&log).map_or(0, |log| log.events());
-    call(&mut dice, log, formula, events)
+    let mut case = call(&mut dice, log, formula, events);
+    case.start = marked::start(&mut clock, &case.log).unwrap_or(case.start);
+    case
 }
 
 /// Rolls start, work words and row words for a log of so many events.

@@ -1,10 +1,12 @@
 //! Where absent fields count in a search: told for cases with few runs, so
-//! that rolled cases are known to reach it.
+//! that rolled cases are known to reach it. The same of marks: `marks`.
+
+pub mod marks;
 
 use crate::formula::{Operator, Step};
 use crate::log::Log;
 use crate::machine::{Config, Setting};
-use crate::runs::literal;
+use crate::runs::{literal, Run};
 
 pub const REACHED: usize = 7;
 
@@ -82,7 +84,7 @@ impl Look<'_> {
     }
 
     /// Not hopeless because the guard names what never arrived: with 0 there
-    /// in the first event it would be.
+    /// in the stretch's first event it would be.
     fn guard_let_off(&self) -> bool {
         let named = self.setting.names_unknown(self.config, self.step, self.n);
         named && !self.is_hopeless() && self.zeros.hopeless(self.config, self.step, self.n)
@@ -98,10 +100,12 @@ fn since(log: &Log, start: usize) -> Log {
     log
 }
 
-/// The log with 0 for every field that its first event lacks.
-fn zeros(log: &Log) -> Log {
+/// The log with 0 for every field that the first event of the start's stretch
+/// lacks.
+fn zeros(log: &Log, start: usize) -> Log {
     let mut log = log.clone();
-    for value in &mut log.recorded[0] {
+    let first = log.around(start).start;
+    for value in &mut log.recorded[first] {
         *value = value.or(Some(0));
     }
     log
@@ -112,7 +116,7 @@ fn zeros(log: &Log) -> Log {
 pub fn reached(setting: &Setting, start: usize, limit: usize) -> Option<[bool; REACHED]> {
     let all = literal::all(setting, start, limit)?;
     let formula = setting.formula;
-    let (since, zeros) = (since(setting.log, start), zeros(setting.log));
+    let (since, zeros) = (since(setting.log, start), zeros(setting.log, start));
     let since = Setting {
         log: &since,
         formula,
@@ -124,12 +128,9 @@ pub fn reached(setting: &Setting, start: usize, limit: usize) -> Option<[bool; R
     let lacks = |n: &usize| setting.log.event(*n).contains(&None);
     let mut reached = [false; REACHED];
     reached[0] = all.least().is_some_and(|run| run.events.iter().any(lacks));
-    for n in start..setting.log.events() {
-        for run in all
-            .partial
-            .iter()
-            .filter(|run| run.events.last() <= Some(&n))
-        {
+    for n in start..setting.log.around(start).end {
+        let so_far = |run: &&Run| run.events.last() <= Some(&n);
+        for run in all.partial.iter().filter(so_far) {
             for step in &setting.state(&run.end).steps {
                 let config = &run.end;
                 let look = Look {

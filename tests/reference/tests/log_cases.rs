@@ -43,8 +43,14 @@ fn lacking_time() -> Vec<u8> {
     file(&[field(1), field(0), trips, open])
 }
 
-/// Bits and values that may not be there, a cut, falls across absent times.
-const SINGLE: [&str; 10] = [
+/// A field and so many marks.
+fn marked(count: usize) -> Vec<u8> {
+    file(&[field(0), mark().repeat(count)])
+}
+
+/// Bits and values that may not be there, a cut, falls across absent times;
+/// marks, falls across them and behind them.
+const SINGLE: [&str; 17] = [
     "0100 03 00 00000000 00",
     "0100 03 02 00000000 00",
     "0100 03 80 00000000 00",
@@ -55,6 +61,13 @@ const SINGLE: [&str; 10] = [
     "0101 02 00000005 03 00 00000000 03 00 00000000 02 00000004 00",
     "0101 03 00 00000000 0101 00",
     "0101 02 00000005 03 03 00000004 00",
+    "0100 04 00",
+    "04 0100 00",
+    "0100 04 0100 00",
+    "0100 02 00000001 04 04 00",
+    "0101 02 00000005 04 02 00000004 00",
+    "0101 02 00000005 04 02 00000004 02 00000003 00",
+    "0101 02 00000005 04 03 00 00000000 02 00000004 00",
 ];
 
 #[test]
@@ -62,6 +75,7 @@ fn the_stored_answers() {
     let mut text = cuts(&bench()) + &sets(&bench(), &[0, 1, 2, 4, 255]);
     text += &(cuts(&lacking_time()) + &sets(&lacking_time(), &[0, 1, 2, 3, 4, 255]));
     text += &SINGLE.map(|log| line(&hex(log))).concat();
+    text += &[64, 65].map(|count| line(&marked(count))).concat();
     for (n, (ours, stored)) in text.lines().zip(STORED.lines()).enumerate() {
         assert_eq!(ours, stored, "line {}", n + 1);
     }

@@ -34,6 +34,7 @@ fn only_field_may_come_first() {
     assert_eq!(refused(hex("03")), (1, 2, 0));
     assert_eq!(refused(hex("03 00 00000000 00")), (1, 2, 0));
     assert_eq!(refused(hex("04")), (1, 2, 0));
+    assert_eq!(refused(hex("05")), (1, 2, 0));
 }
 
 #[test]
@@ -47,7 +48,7 @@ fn end_missing_or_operands_missing() {
 
 #[test]
 fn unknown_commands_and_kinds() {
-    assert_eq!(refused(hex("0100 04 00")), (1, 2, 2));
+    assert_eq!(refused(hex("0100 05 00")), (1, 2, 2));
     assert_eq!(refused(hex("0100 10 00")), (1, 2, 2));
     assert_eq!(refused(hex("0102 00")), (1, 3, 0));
     assert_eq!(refused(hex("0100 01FF")), (1, 3, 2));

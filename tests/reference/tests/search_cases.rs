@@ -34,6 +34,25 @@ fn timed(first: Option<u32>, last: Vec<u8>) -> Vec<u8> {
     file(&[field(1), lacking(&[first]), lacking(&[None]), last])
 }
 
+/// A trip and an open at 500, a mark between.
+fn parted() -> Vec<u8> {
+    let (trip, open) = (event(&[500, 1]), event(&[500, 2]));
+    file(&[field(1), field(0), trip, mark(), open])
+}
+
+/// A trip and an open, two marks, and both again at smaller times.
+fn again() -> Vec<u8> {
+    let first = join(&[event(&[500, 1]), event(&[510, 2])]);
+    let second = join(&[event(&[5, 1]), event(&[9, 2])]);
+    file(&[field(1), field(0), first, mark(), mark(), second])
+}
+
+/// The time 600, a mark, two events without.
+fn reset() -> Vec<u8> {
+    let without = join(&[lacking(&[None]), lacking(&[None])]);
+    file(&[field(1), lacking(&[Some(600)]), mark(), without])
+}
+
 fn log_named(name: &str) -> Vec<u8> {
     let times: [&[u32]; 4] = [&[598], &[599], &[600], &[601]];
     let alike: [&[u32]; 32] = [&[0]; 32];
@@ -51,6 +70,9 @@ fn log_named(name: &str) -> Vec<u8> {
         "late" => timed(Some(600), lacking(&[None])),
         "early" => timed(Some(599), lacking(&[None])),
         "fall" => timed(Some(600), event(&[599])),
+        "parted" => parted(),
+        "again" => again(),
+        "reset" => reset(),
         "empty" => Vec::new(),
         _ => panic!("no log {name}"),
     }
@@ -110,5 +132,5 @@ fn the_stored_answers() {
         let answer = String::from_utf8(output.stdout).expect("text");
         assert_eq!(answer.trim_end(), parts[4], "{line}");
     }
-    assert_eq!(STORED.lines().count(), 47);
+    assert_eq!(STORED.lines().count(), 56);
 }

@@ -1,5 +1,6 @@
 //! Longer logs, against a search that drops nothing: it keeps every
-//! configuration with its arrival and counts the waiting ones by definition.
+//! configuration with its arrival, up to the next mark, and counts the waiting
+//! ones by definition.
 
 use reference::formula::Kind;
 use reference::machine::{Config, Setting};
@@ -58,6 +59,9 @@ fn search(setting: &Setting, start: usize, seats: usize) -> Option<Outcome> {
     kept.insert((Config::START, 0), (Vec::new(), Vec::new()));
     let mut width = 0;
     for n in start..setting.log.events() {
+        if !setting.log.one_stretch(start, n) {
+            kept.clear();
+        }
         let (mut next, run) = advance(setting, &kept, n);
         next.retain(|_, trail| !trail.0.is_empty());
         if run.is_some() {

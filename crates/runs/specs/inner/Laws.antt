@@ -16,10 +16,11 @@ pub record Laws (M : Machine) : Type 1 where
   pub valid-fire : (c d : M .Config) (n k : ℕ) → Valid c → M .fire c n k ≡ some d → Valid d
   -- 'dead start' is refused
   pub start-open : M .final (M .start) ≡ false
-  -- from event `first` on: a step expired after n is expired after every later event, and fires on none
-  pub first : ℕ
-  pub stable : (c : M .Config) (k n m : ℕ) → Valid c → first ≤ n → n < m → m < M .events → M .expired c k n ≡ true → M .expired c k m ≡ true
-  pub silent : (c : M .Config) (k n m : ℕ) → Valid c → first ≤ n → n < m → m < M .events → M .expired c k n ≡ true → M .fire c m k ≡ none
+  -- no event stands behind one of a later stretch
+  pub ordered : (n m : ℕ) → n ≤ m → m < M .events → M .stretch n ≤ M .stretch m
+  -- within a stretch: a step expired after n is expired after every later event, and fires on none
+  pub stable : (c : M .Config) (k n m : ℕ) → Valid c → M .stretch n ≡ M .stretch m → n < m → m < M .events → M .expired c k n ≡ true → M .expired c k m ≡ true
+  pub silent : (c : M .Config) (k n m : ℕ) → Valid c → M .stretch n ≡ M .stretch m → n < m → m < M .events → M .expired c k n ≡ true → M .fire c m k ≡ none
   -- the number of steps that led to a configuration (its counters added up)
   pub weight : M .Config → ℕ
   pub weight-start : weight (M .start) ≡ 0

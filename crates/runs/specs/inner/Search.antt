@@ -1,9 +1,9 @@
 -- 'Search': the answer, computed from every live partial run, event by event.
-use mathlib.Core.Bool.{Bool, true, false, not, _&&_, _||_}
+use mathlib.Core.Bool.{Bool, true, false, cond, not, _&&_, _||_}
 use mathlib.Core.Option.{Option, none, some}
 use mathlib.Core.List.{List, [], _∷_, _++_, map}
 use Prim.Native.Nat.{ℕ, zero, suc, _-_, max, Ordering, Ordering·lt, Ordering·eq, Ordering·gt}
-use lib.Dec.{ltb, leb}
+use lib.Dec.{ltb, leb, eqb}
 use lib.ListN.{length, take}
 use Rattle.runs.specs.inner.Lists.{only, keep, inTurn, distinct}
 use Rattle.runs.specs.Machine.{Machine}
@@ -25,7 +25,7 @@ begun [] = false
 begun (x ∷ t) = true
 
 module _ (M : Machine) where
-  open Machine M using (Config, same, start, committed, final, fire, expired, steps, events)
+  open Machine M using (Config, same, start, committed, final, fire, expired, steps, stretch, events)
 
   abbrev pub arrive : Thread M → ℕ → ℕ → Option Config → List (Thread M) → List (Thread M)
   arrive th n k none rest = rest
@@ -127,6 +127,15 @@ module _ (M : Machine) where
   unfoldable pub origin : List (Thread M)
   origin = record { config = start; trail = [] } ∷ []
 
+  -- the first of at most f events from n on that is not of stretch s; behind them, what follows
+  unfoldable pub endFrom : ℕ → ℕ → ℕ → ℕ
+  endFrom s zero n = n
+  endFrom s (suc f) n = cond (eqb (stretch n) s) (endFrom s f (suc n)) n
+
+  -- where the stretch of event i ends
+  unfoldable pub endOf : ℕ → ℕ
+  endOf i = endFrom (stretch i) (events - i) i
+
   -- the search from event i with so many slots (the paper's seats)
   unfoldable pub search : ℕ → ℕ → Answer M
-  search slots i = scan next waitingCount slots (events - i) i origin 0
+  search slots i = scan next waitingCount slots (endOf i - i) i origin 0

@@ -9,10 +9,10 @@ use lib.ListN.{length}
 use Rattle.runs.specs.inner.Lists.{keep}
 use Rattle.runs.specs.Machine.{Machine}
 use Rattle.runs.specs.Answer.{Answer, absent, crowded}
-use Rattle.runs.specs.inner.Search.{Thread, next, endings, lesser, least, hopeful, outcome, origin}
+use Rattle.runs.specs.inner.Search.{Thread, next, endings, lesser, least, hopeful, outcome, origin, endOf}
 
 module _ (M : Machine) where
-  open Machine M using (same, events)
+  open Machine M using (same)
 
   -- what every thread offers on event n, in order, that may wait after n
   unfoldable pub candidates : ℕ → List (Thread M) → List (Thread M)
@@ -59,4 +59,4 @@ module _ (M : Machine) where
       outcome M (least M (endings M n ths)) peak rest
 
   unfoldable pub threads : ℕ → ℕ → Answer M
-  threads slots i = follow slots (events - i) i (origin M) 0
+  threads slots i = follow slots (endOf M i - i) i (origin M) 0

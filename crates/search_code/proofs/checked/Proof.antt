@@ -1,7 +1,9 @@
 -- `search_code::checked` meets its contract.
 use denote.Ref.{now}
 use native.Mathlib.Omega.{arith}
-use mathlib.Core.Path.{_≡_, refl}
+use mathlib.Core.Path.{_≡_, refl, ap}
+use Rattle.search_code.specs.declared.Scope.{Scope}
+use Rattle.search_code.specs.inner.Turn.{scopeOf, Told}
 use Rattle.search_code.proofs.Calls.{slots-fit, outside, too-short, searched}
 use lib.ListN.{length}
 use borrow.Author.Needs.{needs}
@@ -46,14 +48,23 @@ seen-before-requires c κs =
     let c13 = c7 .before .before .before .before .before .before in
     (omega (arith, c7 .if1 .left, c13 .pre), places-1024 c13)
 
+stretch-end-requires : tie.Need-stretch-end-requires
+stretch-end-requires c κs =
+    let c3 = c .before .before .before in
+    let c9 = c3 .before .before .before .before .before .before in
+    let c15 = c9 .before .before .before .before .before .before in
+    rw (c3 .scope-of .ensures) (omega (arith, c9 .if1 .left), c15 .pre, places-1024 c15)
+
 search-from-requires : tie.Need-search-from-requires
 search-from-requires c κs =
-    let c5 = c .before .before .before .before .before in
-    let c6 = c5 .before in
-    let c10 = c6 .before .before .before .before in
-    let c17 = c10 .before .before .before .before .before .before .before in
-    let k = slots-fit (length (now (c17 .args .work))) (c10 .if2 .left) in
-    rw (c5 .scope-of .ensures, c6 .slots-of .ensures) (k .0, k .1, c17 .pre, places-1024 c17)
+    let c7 = c .before .before .before .before .before .before .before in
+    let c8 = c7 .before in
+    let c12 = c8 .before .before .before .before in
+    let c19 = c12 .before .before .before .before .before .before .before in
+    let k = slots-fit (length (now (c19 .args .work))) (c12 .if2 .left) in
+    let end = c .before .before .before .stretch-end in
+    let events = ap (λ (x : Scope). x .events) (c7 .scope-of .ensures) in
+    rw (c7 .scope-of .ensures, c8 .slots-of .ensures) (k .0, k .1, omega (arith, end .ensures .1, events, c19 .pre), places-1024 c19)
 
 same-length : tie.Need-same-length
 same-length c = search needs
@@ -62,16 +73,20 @@ returns-3 : tie.Need-returns-3
 returns-3 c =
     let c6 = c .before .before .before .before .before .before in
     let c8 = c6 .before .before in
-    let c9 = c8 .before in
-    let c13 = c9 .before .before .before .before in
-    let c14 = c13 .before in
-    let a = c14 .before .before .before .before .before .before .args in
-    let n = c9 .slots-of in
-    let s = c8 .scope-of in
-    let x = c6 .seen-before in
-    let r = c .before .before .search-from in (
-      searched (now (a .l)) (now (a .f)) (a .files) (a .start) (now (a .work)) (n .result) _ (x .result) (r .result) (c14 .if1 .left) (c13 .if2 .left)
-          (n .ensures) (rw (s .ensures) at (x .ensures)) (rw (s .ensures) at (r .ensures .0)),
+    let c10 = c8 .before .before in
+    let c11 = c10 .before in
+    let c15 = c11 .before .before .before .before in
+    let c16 = c15 .before in
+    let a = c16 .before .before .before .before .before .before .args in
+    let n = c11 .slots-of in
+    let s = c10 .scope-of in
+    let x = c8 .seen-before in
+    let e = c6 .stretch-end in
+    let r = c .before .before .search-from in
+    let told : Told (now (a .l)) (a .files .log .places) (scopeOf (a .files .log) (a .files .formula) (n .result)) (a .start) (e .result) (x .result) =
+    record { there = c16 .if1 .left; end-is = rw (s .ensures) at (e .ensures .0); seen-is = rw (s .ensures) at (x .ensures) } in (
+      searched (now (a .l)) (now (a .f)) (a .files) (a .start) (now (a .work)) (n .result) (e .result) _ (x .result) (r .result) (c15 .if2 .left)
+          (n .ensures) told (rw (s .ensures) at (r .ensures .0)),
       (r .ensures .1 .1, rw (← n .ensures) (rw (s .ensures) at (r .ensures .1 .0))),
     )
 
@@ -86,6 +101,7 @@ checked-spec =
     slots-of-requires
     scope-of-requires
     seen-before-requires
+    stretch-end-requires
     search-from-requires
     same-length
     returns-3)

@@ -13,12 +13,12 @@ use Rattle.search_code.proofs.search_from.Statement.{statement}
 use Rattle.search_code.proofs.search_from.Tie as tie
 
 abbrev Inv-loop : tie.InvT-loop
-Inv-loop l places f table scope start work₀ wide rules slots half₀ count₀ width₀ seen₀ n₀ work half count width seen n =
+Inv-loop l places f table scope start end work₀ wide rules half₀ count₀ width₀ seen₀ n₀ work half count width seen n =
     (half < 2) × (count ≤ scope .slots) × (width ≤ scope .slots) × (length work ≡ length work₀)
-    × Searching l places f table scope start seen₀ n half count width work seen
+    × Searching l places f table scope start end seen₀ n half count width work seen
 
 abbrev μ-loop : tie.MeasureT-loop
-μ-loop l places f table scope start work₀ wide rules slots half₀ count₀ width₀ seen₀ n₀ work half count width seen n = scope .events - n
+μ-loop l places f table scope start end work₀ wide rules half₀ count₀ width₀ seen₀ n₀ work half count width seen n = end - n
 
 origin-in-requires : tie.Need-origin-in-requires Inv-loop μ-loop
 origin-in-requires c κs =
@@ -38,7 +38,7 @@ loop-holds c =
       omega (arith, c9 .pre),
       omega arith,
       refl,
-      searching-start (now (a .l)) (now (a .places)) (now (a .f)) (now (a .table)) (a .scope) (a .start) (a .before) (o .last .0) (o .ensures .0),
+      searching-start (now (a .l)) (now (a .places)) (now (a .f)) (now (a .table)) (a .scope) (a .start) (a .end) (a .before) (o .last .0) (o .ensures .0),
     )
 
 mul-event-at : tie.Need-mul-event-at Inv-loop μ-loop
@@ -53,20 +53,20 @@ event-at-requires c κs = search needs
 moment-of-requires : tie.Need-moment-of-requires Inv-loop μ-loop
 moment-of-requires c κs =
     let c3 = c .before .before .before in
-    let c15 = c3 .before .before .before .before .before .before .before .before .before .before .before .before in
-    omega (arith, c3 .if1 .taken, c15 .pre)
+    let c14 = c3 .before .before .before .before .before .before .before .before .before .before .before in
+    omega (arith, c3 .loop-test .taken, c14 .pre)
 
 at-event-requires : tie.Need-at-event-requires Inv-loop μ-loop
 at-event-requires c κs =
     let c4 = c .before .before .before .before in
     let c8 = c4 .before .before .before .before in
-    let c10 = c8 .before .before in
+    let c10 = c8 .before in
     let c15 = c10 .before .before .before .before .before in
     let c20 = c15 .before .before .before .before .before in
     let i = c10 .loop in
     let k : length (i .work) ≡ length (now (c20 .args .work)) = i .inv .3 ∙ c15 .origin-in .ensures .1 in (
       (omega (arith, k, c20 .pre), i .inv .0, i .inv .1),
-      omega (arith, ap (λ (m : Moment). m .number) (c4 .moment-of .ensures), c8 .if1 .taken, c20 .pre),
+      omega (arith, ap (λ (m : Moment). m .number) (c4 .moment-of .ensures), c8 .loop-test .taken, c20 .pre),
       search needs,
     )
 
@@ -79,7 +79,7 @@ named-requires c κs = search needs
 same-length : tie.Need-same-length Inv-loop μ-loop
 same-length c =
     let c5 = c .before .before .before .before .before in
-    let c16 = c5 .before .before .before .before .before .before .before .before .before .before .before in
+    let c16 = c5 .before .before .before .before .before .before .before .before .before .before in
     let c21 = c16 .before .before .before .before .before in
     c5 .at-event .ensures .1 .1 ∙ c16 .loop .inv .3 ∙ c21 .origin-in .ensures .1
 
@@ -89,7 +89,7 @@ returns c =
     let c6 = c5 .before .before .before .before .before in
     let c11 = c6 .before .before in
     let c13 = c11 .before .before in
-    let c15 = c13 .before .before in
+    let c15 = c13 .before in
     let c17 = c15 .before .before in
     let c20 = c17 .before .before .before in
     let c25 = c20 .before .before .before .before .before in
@@ -103,8 +103,8 @@ returns c =
     (c6 .moment-of .ensures)
     (at .ensures .0 (now (a .table)) (c17 .widened .ensures)) in
     let r =
-    searching-found (now (a .l)) (now (a .places)) (now (a .f)) (now (a .table)) (a .scope) (a .start) (a .before) (i .n) (i .half) (i .count) (i .width)
-    (i .work) (i .seen) (i .inv .4) (c13 .if1 .taken) (load .result) (load .ensures) (at .last .0) (at .result) is (c .named .result)
+    searching-found (now (a .l)) (now (a .places)) (now (a .f)) (now (a .table)) (a .scope) (a .start) (a .end) (a .before) (i .n) (i .half) (i .count)
+    (i .width) (i .work) (i .seen) (i .inv .4) (c13 .loop-test .taken) (load .result) (load .ensures) (at .last .0) (at .result) is (c .named .result)
     (c .before .enum-told .given .1) (i .inv .2)
     (c .named .ensures) in
     (r .0, (r .1, at .ensures .1 .1 ∙ i .inv .3 ∙ c20 .origin-in .ensures .1))
@@ -118,7 +118,7 @@ refused-requires c κs = search needs
 same-length-2 : tie.Need-same-length-2 Inv-loop μ-loop
 same-length-2 c =
     let c5 = c .before .before .before .before .before in
-    let c16 = c5 .before .before .before .before .before .before .before .before .before .before .before in
+    let c16 = c5 .before .before .before .before .before .before .before .before .before .before in
     let c21 = c16 .before .before .before .before .before in
     c5 .at-event .ensures .1 .1 ∙ c16 .loop .inv .3 ∙ c21 .origin-in .ensures .1
 
@@ -128,7 +128,7 @@ returns-2 c =
     let c6 = c5 .before .before .before .before .before in
     let c11 = c6 .before .before in
     let c13 = c11 .before .before in
-    let c15 = c13 .before .before in
+    let c15 = c13 .before in
     let c17 = c15 .before .before in
     let c20 = c17 .before .before .before in
     let c25 = c20 .before .before .before .before .before in
@@ -142,8 +142,8 @@ returns-2 c =
     (c6 .moment-of .ensures)
     (at .ensures .0 (now (a .table)) (c17 .widened .ensures)) in
     let r =
-    searching-crowded (now (a .l)) (now (a .places)) (now (a .f)) (now (a .table)) (a .scope) (a .start) (a .before) (i .n) (i .half) (i .count) (i .width)
-    (i .work) (i .seen) (i .inv .4) (c13 .if1 .taken) (load .result) (load .ensures) (at .last .0) (at .result) is (c .refused .result)
+    searching-crowded (now (a .l)) (now (a .places)) (now (a .f)) (now (a .table)) (a .scope) (a .start) (a .end) (a .before) (i .n) (i .half) (i .count)
+    (i .width) (i .work) (i .seen) (i .inv .4) (c13 .loop-test .taken) (load .result) (load .ensures) (at .last .0) (at .result) is (c .refused .result)
     (c .before .enum-told2 .given .1)
     (c .refused .ensures) in
     (r .0, (r .1, at .ensures .1 .1 ∙ i .inv .3 ∙ c20 .origin-in .ensures .1))
@@ -156,7 +156,7 @@ larger-requires c κs = search needs
 
 sub-half : tie.Need-sub-half Inv-loop μ-loop
 sub-half c =
-    let c17 = c .before .before .before .before .before .before .before .before .before .before .before .before .before .before .before .before .before in
+    let c17 = c .before .before .before .before .before .before .before .before .before .before .before .before .before .before .before .before in
     omega (arith, c17 .loop .inv .0)
 
 onward-requires : tie.Need-onward-requires Inv-loop μ-loop
@@ -165,7 +165,7 @@ onward-requires c κs = search needs
 loop-less : tie.Need-loop-less Inv-loop μ-loop
 loop-less c =
     let c16 = c .before .before .before .before .before .before .before .before .before .before .before .before .before .before .before .before in
-    omega (arith, c .onward .ensures .1, c16 .if1 .taken)
+    omega (arith, c .onward .ensures .1, c16 .loop-test .taken)
 
 loop-again : tie.Need-loop-again Inv-loop μ-loop
 loop-again c =
@@ -174,7 +174,7 @@ loop-again c =
     let c8 = c7 .before .before .before .before .before in
     let c13 = c8 .before .before in
     let c15 = c13 .before .before in
-    let c17 = c15 .before .before in
+    let c17 = c15 .before in
     let c19 = c17 .before .before in
     let c27 = c19 .before .before .before .before .before .before .before .before in
     let a = c27 .args in
@@ -191,12 +191,12 @@ loop-again c =
     let larger = c .before .larger in
     let widest : larger .result ≤ a .scope .slots = omega (arith, larger .ensures, i .inv .2) in
     let s =
-    searching-next (now (a .l)) (now (a .places)) (now (a .f)) (now (a .table)) (a .scope) (a .start) (a .before) (i .n) (i .half) (i .count) (i .width)
-    (i .work) (i .seen) (i .inv .4) (c15 .if1 .taken) (load .result) (load .ensures) (at .last .0) (at .result) is (more .0 .0) (c .onward .result) (more .1)
-    (c .onward .ensures .0) in
+    searching-next (now (a .l)) (now (a .places)) (now (a .f)) (now (a .table)) (a .scope) (a .start) (a .end) (a .before) (i .n) (i .half) (i .count)
+    (i .width) (i .work) (i .seen) (i .inv .4) (c15 .loop-test .taken) (load .result) (load .ensures) (at .last .0) (at .result) is (more .0 .0)
+    (c .onward .result) (more .1) (c .onward .ensures .0) in
     let carried =
     subst
-    (Searching (now (a .l)) (now (a .places)) (now (a .f)) (now (a .table)) (a .scope) (a .start) (a .before) (c .onward .result) (1 - i .half)
+    (Searching (now (a .l)) (now (a .places)) (now (a .f)) (now (a .table)) (a .scope) (a .start) (a .end) (a .before) (c .onward .result) (1 - i .half)
     (more .0 .0) (larger .result) (at .last .0)) (sym (ap (λ (m : Moment). m .latest) (c8 .moment-of .ensures))) (rw (larger .ensures) s) in
     (omega arith, fits, widest, at .ensures .1 .1 ∙ i .inv .3, carried)
 
@@ -205,20 +205,20 @@ no-run-requires c κs = search needs
 
 same-length-3 : tie.Need-same-length-3 Inv-loop μ-loop
 same-length-3 c =
-    let c3 = c .before .before .before in
+    let c3 = c .before .before in
     let c8 = c3 .before .before .before .before .before in
     c3 .loop .inv .3 ∙ c8 .origin-in .ensures .1
 
 returns-3 : tie.Need-returns-3 Inv-loop μ-loop
 returns-3 c =
-    let c3 = c .before .before .before in
+    let c3 = c .before .before in
     let c8 = c3 .before .before .before .before .before in
     let c13 = c8 .before .before .before .before .before in
     let a = c13 .args in
     let i = c3 .loop in
     let r =
-    searching-over (now (a .l)) (now (a .places)) (now (a .f)) (now (a .table)) (a .scope) (a .start) (a .before) (i .n) (i .half) (i .count) (i .width)
-    (i .work) (i .seen) (i .inv .4) (c .no-run .result) (c .before .if1 .left) (i .inv .2) (c .no-run .ensures) in
+    searching-over (now (a .l)) (now (a .places)) (now (a .f)) (now (a .table)) (a .scope) (a .start) (a .end) (a .before) (i .n) (i .half) (i .count)
+    (i .width) (i .work) (i .seen) (i .inv .4) (c .no-run .result) (c .before .loop-test .left) (i .inv .2) (c .no-run .ensures) in
     (r .0, (r .1, i .inv .3 ∙ c8 .origin-in .ensures .1))
 
 pub search-from-spec : {M : Type 1} → statement M

@@ -12,7 +12,7 @@ use Rattle.event_log.specs.declared.Event.{Event}
 use Rattle.event_log.specs.declared.LogReading.{LogReading}
 use Rattle.event_log.specs.declared.Latest.{Latest}
 use Rattle.event_log.specs.Arrays.{latestOf}
-use Rattle.event_log.specs.inner.Loading.{loadedAt, Leads}
+use Rattle.event_log.specs.inner.Loading.{loadedAt, markedAt, Leads}
 use Rattle.event_log.specs.inner.Carrying.{laterOf}
 use Rattle.formula.specs.Formula.{Formula}
 use Rattle.formula_code.specs.declared.FormulaReading.{FormulaReading}
@@ -37,10 +37,19 @@ use Rattle.search_code.specs.declared.Entries.{Entries}
 use Rattle.search_code.specs.declared.Scope.{Scope}
 use Rattle.search.specs.Search.{answerOf}
 
+-- the last present values behind the event at a place, from those before it: none behind a clock mark
+abbrev pub seenNext : List ℕ → ℕ → ℕ → Latest → Latest
+seenNext l fields at seen = cond (markedAt l ((loadedAt l fields at) .next)) (latestOf []) (laterOf seen ((loadedAt l fields at) .event))
+
 -- the last present values before event n, of the events that a table of places leads to
 unfoldable pub seenTo : List ℕ → List ℕ → ℕ → ℕ → Latest
 seenTo l places fields zero = latestOf []
-seenTo l places fields (suc n) = laterOf (seenTo l places fields n) ((loadedAt l fields (getD places n 0)) .event)
+seenTo l places fields (suc n) = seenNext l fields (getD places n 0) (seenTo l places fields n)
+
+-- where the stretch of event n ends, if so many events are left: behind the first of them that a clock mark follows
+unfoldable pub endTo : List ℕ → List ℕ → ℕ → ℕ → ℕ → ℕ
+endTo l places fields zero n = n
+endTo l places fields (suc f) n = cond (markedAt l ((loadedAt l fields (getD places n 0)) .next)) (suc n) (endTo l places fields f (suc n))
 
 -- event n, judged by the last present values up to it: `seen` has those before it
 abbrev pub momentOf : ℕ → Latest → Event → Moment
@@ -108,8 +117,18 @@ pub record Given (g : Log) (fm : Formula) (l places f table : List ℕ) (scope :
   pub leads : Leads l places g
   pub events-are : scope .events ≡ length (g .events)
 
--- the search's answer, given the last present values before its start
-abbrev pub SearchedFrom : List ℕ → List ℕ → List ℕ → List ℕ → Scope → ℕ → Latest → SearchAnswer → Type 0
-SearchedFrom l places f table scope start seen r =
-    (g : Log) (fm : Formula) → Given g fm l places f table scope → start < scope .events → seen ≡ seenTo l places (scope .rules .fields) start
+-- where the stretch of a start ends
+abbrev pub stretchEnd : List ℕ → List ℕ → Scope → ℕ → ℕ
+stretchEnd l places scope start = endTo l places (scope .rules .fields) (scope .events - start) start
+
+-- what a search from a start is told: it is an event of the log, where its stretch ends, and the last present values before it
+pub record Told (l places : List ℕ) (scope : Scope) (start end : ℕ) (seen : Latest) : Type 0 where
+  pub there : start < scope .events
+  pub end-is : end ≡ stretchEnd l places scope start
+  pub seen-is : seen ≡ seenTo l places (scope .rules .fields) start
+
+-- the search's answer
+abbrev pub SearchedFrom : List ℕ → List ℕ → List ℕ → List ℕ → Scope → ℕ → ℕ → Latest → SearchAnswer → Type 0
+SearchedFrom l places f table scope start end seen r =
+    (g : Log) (fm : Formula) → Given g fm l places f table scope → Told l places scope start end seen
     → r ≡ answerOf g fm (Runs.search (machine g fm) (scope .slots) start)

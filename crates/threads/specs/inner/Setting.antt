@@ -1,5 +1,5 @@
 -- What the functions of one event are given of the two files: the formula's bytes and what its reader and the log's reader found.
-use Prim.Native.Nat.{ℕ, suc, _+_, _<_, _≤_}
+use Prim.Native.Nat.{ℕ, _+_, _<_, _≤_}
 use mathlib.Core.Path.{_≡_}
 use mathlib.Core.Bool.{Bool, true, false}
 use mathlib.Core.List.{List, map}
@@ -7,7 +7,7 @@ use lib.ListN.{length, getD}
 use Rattle.base.specs.Lists.{All, pad}
 use Rattle.event_log.specs.Log.{Log, Values, eventAt}
 use Rattle.event_log.specs.Arrays.{eventOf, latestOf, inEvent, inLatest}
-use Rattle.event_log.specs.Latest.{latest}
+use Rattle.event_log.specs.Latest.{latestAt}
 use Rattle.event_log.specs.Correct as LogCorrect
 use Rattle.event_log.specs.Read.{rises}
 use Rattle.event_log.specs.inner.Loading.{Leads}
@@ -73,7 +73,7 @@ MarkedIs f steps rises m before after = (length after ≡ length before) × (Eve
 pub record Loads (g : Log) (m : Moment) : Type 0 where
   pub there : m .number < length (g .events)
   pub event-is : m .event ≡ eventOf ((eventAt g (m .number)) .values)
-  pub latest-is : m .latest ≡ latestOf (latest g (suc (m .number)))
+  pub latest-is : m .latest ≡ latestOf (latestAt g (m .number))
 
 -- what the functions of one event are given: the setting, the log's bytes and where its events stand, the event, and the event's table
 pub record Scene (g : Log) (fm : Formula) (l places f table : List ℕ) (rules : Rules) (m : Moment) : Type 0 where

@@ -61,6 +61,9 @@ pub fn judged(log: &Log, start: usize, n: usize) -> Cow<'_, Log> {
         _ if has(Fault::LatestFromStart) => start,
         _ => 0,
     };
+    if has(Fault::LatestAcrossMark) {
+        return Cow::Owned(log.unmarked());
+    }
     if from == 0 && !has(Fault::NeverArrivedAsZero) {
         return Cow::Borrowed(log);
     }
@@ -69,7 +72,8 @@ pub fn judged(log: &Log, start: usize, n: usize) -> Cow<'_, Log> {
     judged.recorded[..from].iter_mut().for_each(blank);
     if has(Fault::NeverArrivedAsZero) {
         let zero = |value: &mut Option<u32>| *value = value.or(Some(0));
-        judged.recorded[0].iter_mut().for_each(zero);
+        let first = log.around(n).start;
+        judged.recorded[first].iter_mut().for_each(zero);
     }
     Cow::Owned(judged)
 }

@@ -127,6 +127,32 @@ faults! {
     LengthLetsOff,
     LengthWithoutUnknown,
     LaterBindTaken,
+    // Reading marks.
+    MarkForeign,
+    MarkBeforeField,
+    MarksRunningForeign,
+    MarkBeforeEventForeign,
+    MarkBeforeEndForeign,
+    MarksUpTo65,
+    MarkTooManyForeign,
+    MarkTooManyCut,
+    MarkCountedAsEvent,
+    MarkAsEvent,
+    PlaceOfMark,
+    FieldBehindMark,
+    RisingAcrossMark,
+    RisingFreeBehindMark,
+    // Searching logs that have them.
+    RunAcrossMark,
+    OrdinaryAcrossMark,
+    CommittedAcrossMark,
+    FirstStretchAlone,
+    LastOfStretchUncounted,
+    LastOfStretchUnsearched,
+    LatestAcrossMark,
+    NumbersAfresh,
+    NumbersWithMarks,
+    RowNumbersAfresh,
 }
 
 static FAULT: AtomicUsize = AtomicUsize::new(0);

@@ -3,6 +3,7 @@
 
 use super::absent::{self, Named};
 use super::fault::{has, Fault};
+use super::marks;
 use reference::formula::{Expression, Formula, Kind, State, Step, LISTS, VARIABLES};
 use reference::machine::{trend, value, Config, Lists, Setting, Trend, Trends};
 use reference::runs::{Outcome, Run, MOST_RUN};
@@ -147,6 +148,11 @@ fn hopeless(setting: &Setting, config: &Config, own: &Own, n: usize) -> bool {
     })
 }
 
+fn hopeful(setting: &Setting, steps: &[Vec<Own>], config: &Config, n: usize) -> bool {
+    let mut own = steps[usize::from(config.state)].iter();
+    own.any(|step| !hopeless(setting, config, step, n))
+}
+
 fn fresh(rising: bool) -> Trend {
     match rising {
         true => Trend::RISING,
@@ -209,6 +215,17 @@ fn spread(
     true
 }
 
+/// Seats the threads that may go on, each with its lesser trail.
+fn seat(threads: &mut Threads, open: Vec<(Config, Trail)>) {
+    for (config, trail) in open.into_iter().filter(|open| open.1 .0.len() < MOST_RUN) {
+        let known = threads.entry(key(&config));
+        let known = known.or_insert_with(|| (config.clone(), trail.clone()));
+        if trail < known.1 {
+            *known = (config, trail);
+        }
+    }
+}
+
 pub fn search(setting: &Setting, start: usize, seats: usize) -> Outcome {
     let steps = steps(setting.formula);
     let seen = absent::seen(setting.log);
@@ -219,7 +236,10 @@ pub fn search(setting: &Setting, start: usize, seats: usize) -> Outcome {
     let begin = (Config::START, (Vec::new(), Vec::new()));
     let mut threads = Threads::new();
     let mut width = 0;
-    for n in start..setting.log.events() {
+    for n in start..marks::end(setting.log, start) {
+        if !setting.log.one_stretch(start, n) {
+            threads.retain(|_, (config, _)| marks::crosses(setting.kind(config)));
+        }
         let mut found = Vec::new();
         match n == start {
             true => drop(spread(&firing, &steps, &begin, n, &mut found)),
@@ -233,25 +253,17 @@ pub fn search(setting: &Setting, start: usize, seats: usize) -> Outcome {
             let run = Some(Run { events, steps, end });
             return Outcome::Done { run, width };
         }
-        for (config, trail) in open.into_iter().filter(|open| open.1 .0.len() < MOST_RUN) {
-            let known = threads.entry(key(&config));
-            let known = known.or_insert_with(|| (config.clone(), trail.clone()));
-            if trail < known.1 {
-                *known = (config, trail);
-            }
-        }
+        seat(&mut threads, open);
         let judged = Setting {
             log: &absent::judged(setting.log, start, n),
             formula: setting.formula,
         };
-        threads.retain(|_, (config, _)| {
-            let own = &steps[usize::from(config.state)];
-            own.iter().any(|step| !hopeless(&judged, config, step, n))
-        });
-        if threads.len() > seats {
+        threads.retain(|_, (config, _)| hopeful(&judged, &steps, config, n));
+        let waiting = marks::counted(setting.log, n, threads.len());
+        if waiting > seats {
             return Outcome::Crowded(n);
         }
-        width = width.max(threads.len());
+        width = width.max(waiting);
     }
     Outcome::Done { run: None, width }
 }

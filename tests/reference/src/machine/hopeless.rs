@@ -1,4 +1,5 @@
-//! Hopeless steps: every field is judged by its last present value.
+//! Hopeless steps: every field is judged by its last present value since the
+//! last mark.
 
 use super::{holds, trend, value, Config, Setting, Trend, Trends};
 use crate::formula::{Bind, Expression, Operator, Step, Test, LISTS, VARIABLES};
@@ -11,7 +12,8 @@ impl Setting<'_> {
     }
 
     /// Is the step hopeless after event n? Every field is judged by its last
-    /// present value; one that never arrived makes no test hopeless.
+    /// present value in the event's stretch; one that has not arrived there
+    /// makes no test hopeless.
     pub fn hopeless(&self, config: &Config, step: &Step, n: usize) -> bool {
         let too_late = |test: &Test| {
             let upper = matches!(test.operator, Operator::Less | Operator::AtMost);
@@ -24,7 +26,7 @@ impl Setting<'_> {
     }
 
     /// Is the guard falling and already 0, naming nothing that would take the
-    /// value of a field that never arrived?
+    /// value of a field that has not arrived?
     fn guard_hopeless(&self, config: &Config, step: &Step, n: usize) -> bool {
         let Some(guard) = &step.guard else {
             return false;
@@ -49,7 +51,7 @@ impl Setting<'_> {
     }
 
     /// Does the guard name, anywhere, a variable or a sum that would take the
-    /// value of a field without a present value up to event n?
+    /// value of a field without a present value in the stretch up to event n?
     pub fn names_unknown(&self, config: &Config, step: &Step, n: usize) -> bool {
         let unknown = |field: usize| self.log.latest(field, n).is_none();
         let variable = |variable: usize| {

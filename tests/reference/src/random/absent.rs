@@ -1,43 +1,11 @@
 //! Fields that events lack: a log with some of its values taken out, and
 //! damage to the events that lack them.
 
+use super::layout::Layout;
 use super::Dice;
 use crate::bytes::value;
 use crate::compose::{event, lacking};
 use std::ops::Range;
-
-/// Where the events of a log begin, as far as its commands can be told, and
-/// where they end.
-struct Layout {
-    fields: usize,
-    events: Vec<usize>,
-    end: usize,
-}
-
-impl Layout {
-    fn of(log: &[u8]) -> Layout {
-        let fields = log.chunks(2).take_while(|two| two[0] == 0x01).count();
-        let mut layout = Layout {
-            fields,
-            events: Vec::new(),
-            end: 2 * fields,
-        };
-        while (1..=8).contains(&fields) {
-            let at = layout.end;
-            let values = match log.get(at) {
-                Some(0x02) => at + 1,
-                Some(0x03) => at + 2,
-                _ => break,
-            };
-            if values + 4 * fields > log.len() {
-                break;
-            }
-            layout.events.push(at);
-            layout.end = values + 4 * fields;
-        }
-        layout
-    }
-}
 
 /// A field that some events in a row lack.
 struct Gap {
@@ -66,7 +34,8 @@ fn gap(dice: &mut Dice, layout: &Layout) -> Gap {
 /// is, and so does any other log.
 pub fn thin(dice: &mut Dice, log: &mut Vec<u8>) {
     let layout = Layout::of(log);
-    if layout.events.is_empty() || layout.events.iter().any(|&at| log[at] == 0x03) {
+    let lacks = layout.events.iter().any(|&at| log[at] == 0x03);
+    if layout.events.is_empty() || lacks || !layout.marks.is_empty() {
         return;
     }
     let often = dice.pick(&[0, 5, 10, 30, 60, 95]);
@@ -121,8 +90,8 @@ pub fn spoil(dice: &mut Dice, log: &mut Vec<u8>) -> bool {
 
 /// Makes a value of the event at this place less, mostly of a rising field: it
 /// may now fall, below what came before events that lack it too.
-fn lower(dice: &mut Dice, log: &mut [u8], fields: usize, at: usize) {
-    let values = at + usize::from(log[at]) - 1;
+pub fn lower(dice: &mut Dice, log: &mut [u8], fields: usize, at: usize) {
+    let values = Layout::values(log, at);
     let rising = (0..fields).find(|field| log[2 * field + 1] == 1);
     let any = dice.below(fields);
     let field = if dice.chance(70) { rising } else { None };

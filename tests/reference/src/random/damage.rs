@@ -1,6 +1,6 @@
 //! Damage to a file: cut, flip, insert, delete, append, copy.
 
-use super::{absent, Dice};
+use super::{absent, marks, Dice};
 
 /// Spoils the bytes once, seldom twice.
 pub fn spoil(dice: &mut Dice, bytes: &mut Vec<u8>) {
@@ -14,7 +14,7 @@ fn once(dice: &mut Dice, bytes: &mut Vec<u8>) {
         bytes.push(command(dice));
         return;
     }
-    if absent::spoil(dice, bytes) {
+    if marks::spoil(dice, bytes) || absent::spoil(dice, bytes) {
         return;
     }
     if let Some(at) = a_gather(dice, bytes) {
@@ -72,7 +72,7 @@ fn spoil_gather(dice: &mut Dice, bytes: &mut Vec<u8>, at: usize) {
 /// A byte that is likely to be a command somewhere.
 fn command(dice: &mut Dice) -> u8 {
     match dice.below(5) {
-        0 => dice.below(4) as u8,
+        0 => dice.below(5) as u8,
         1 => 0x10 + dice.below(8) as u8,
         2 => 0x20 + dice.below(15) as u8,
         3 => dice.pick(&[0x18, 0x2F, 0x1F, 0xFF]),

@@ -29,6 +29,29 @@ pub fn pair(dice: &mut Dice) -> (Vec<u8>, Vec<u8>) {
     (log(dice, fields, events).bytes, file(&parts))
 }
 
+/// As many marks as may be, one less or one over, some of them running, with a
+/// formula of two steps.
+pub fn marks(dice: &mut Dice) -> (Vec<u8>, Vec<u8>) {
+    let mut left = dice.pick(&[63, 64, 64, 65, 65, 66]);
+    let mut parts = vec![field(1)];
+    while left > 0 {
+        let running = dice.pick(&[1, 1, 2, 5, 20]).min(left);
+        parts.push(vec![0x04; running]);
+        left -= running;
+        if left > 0 || dice.chance(50) {
+            for time in 0..dice.below(3) as u32 {
+                parts.push(event(&[time]));
+            }
+        }
+    }
+    let formula = file(&[
+        join(&[state(0), step(1)]),
+        join(&[state(dice.below(2) as u8), step(2), test(0, 5, 1)]),
+        state(dice.pick(&[2, 3])),
+    ]);
+    (file(&parts), formula)
+}
+
 fn states(number: usize) -> Vec<Vec<u8>> {
     let mut parts = vec![state(0), step(15)];
     parts.extend((1..number).map(|_| state(2)));

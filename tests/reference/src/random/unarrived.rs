@@ -10,7 +10,12 @@ const CODE: u8 = 1;
 const READING: u8 = 2;
 
 pub fn pair(dice: &mut Dice) -> (Vec<u8>, Vec<u8>) {
-    let log = log_of(dice);
+    let log = file(&[fields(), events(dice, 0)]);
+    (log, formula(dice))
+}
+
+/// A formula whose second state waits for what may be absent.
+pub fn formula(dice: &mut Dice) -> Vec<u8> {
     let held = dice.chance(50);
     let mut parts = vec![state(dice.pick(&[0, 0, 1])), step(1)];
     if held {
@@ -22,13 +27,18 @@ pub fn pair(dice: &mut Dice) -> (Vec<u8>, Vec<u8>) {
         parts.push(waiting(dice, held));
     }
     parts.push(state(dice.pick(&[2, 3])));
-    (log, file(&parts))
+    file(&parts)
 }
 
-/// The reading never arrives, or begins late, or ends early, or both; time and
-/// code are seldom absent.
-fn log_of(dice: &mut Dice) -> Vec<u8> {
-    let mut parts = vec![field(1), field(0), field(1)];
+pub fn fields() -> Vec<u8> {
+    join(&[field(1), field(0), field(1)])
+}
+
+/// Events in which the reading never arrives, or begins late, or ends early,
+/// or both; time and code are seldom absent. Time and reading begin near the
+/// base.
+pub fn events(dice: &mut Dice, base: u32) -> Vec<u8> {
+    let mut parts = Vec::new();
     let events = dice.between(3, 7);
     let there = match dice.below(6) {
         0 => 0..0,
@@ -36,7 +46,8 @@ fn log_of(dice: &mut Dice) -> Vec<u8> {
         2 | 3 => 0..dice.between(1, 2),
         _ => dice.below(3)..dice.between(2, 5),
     };
-    let (mut time, mut reading) = (dice.below(3) as u32, dice.below(4) as u32);
+    let mut time = base + dice.below(3) as u32;
+    let mut reading = base + dice.below(4) as u32;
     for n in 0..events {
         let arrives = there.contains(&n) && !dice.chance(20);
         parts.push(lacking(&[
@@ -47,7 +58,7 @@ fn log_of(dice: &mut Dice) -> Vec<u8> {
         time += dice.below(3) as u32;
         reading += dice.below(3) as u32;
     }
-    file(&parts)
+    join(&parts)
 }
 
 /// The tests, binds, gathers and the guard of a step that grows old.

@@ -37,7 +37,7 @@ fn taken(
 }
 
 /// Where the listed steps on the listed events lead, if they are a run or a
-/// partial run from the start.
+/// partial run from the start: events on both sides of a mark are none.
 pub fn replay(
     setting: &Setting,
     start: usize,
@@ -53,6 +53,9 @@ pub fn replay(
     let mut arrival = None;
     for (&n, &number) in events.iter().zip(steps) {
         if n >= setting.log.events() || number >= setting.state(&config).steps.len() {
+            return None;
+        }
+        if !setting.log.one_stretch(start, n) {
             return None;
         }
         config = taken(setting, &config, arrival, n, number)?;
@@ -91,12 +94,14 @@ pub fn all(setting: &Setting, start: usize, limit: usize) -> Option<All> {
     Some(found)
 }
 
-/// The runs with one step more, taken on one of the given events.
+/// The runs with one step more, taken on one of the given events that is not
+/// on the other side of a mark.
 fn longer(setting: &Setting, run: &Run, events: std::ops::Range<usize>) -> Vec<Run> {
     let mut found = Vec::new();
-    for n in events {
+    let arrival = run.events.last().copied();
+    let near = |n: &usize| arrival.is_none_or(|last| setting.log.one_stretch(last, *n));
+    for n in events.filter(near) {
         for number in 0..setting.state(&run.end).steps.len() {
-            let arrival = run.events.last().copied();
             if let Some(end) = taken(setting, &run.end, arrival, n, number) {
                 let mut next = run.clone();
                 next.events.push(n);
@@ -122,11 +127,13 @@ impl All {
         self.ended.iter().min_by_key(|run| key(run))
     }
 
-    /// The configurations of partial runs up to event n in which no committed
-    /// state has let a firing event pass.
+    /// The configurations of partial runs up to event n, with no mark since
+    /// their last event, in which no committed state has let a firing event
+    /// pass.
     pub fn alive(&self, setting: &Setting, n: usize) -> BTreeSet<Config> {
         let lives = |run: &&Run| {
             let last = run.events[run.events.len() - 1];
+            let near = last <= n && setting.log.one_stretch(last, n);
             let fires = |m: usize| {
                 let steps = &setting.state(&run.end).steps;
                 steps
@@ -134,7 +141,7 @@ impl All {
                     .any(|step| setting.fire(&run.end, step, m).is_some())
             };
             let committed = setting.kind(&run.end) == Kind::Committed;
-            run.events.len() < MOST_RUN && last <= n && !(committed && (last + 1..=n).any(fires))
+            run.events.len() < MOST_RUN && near && !(committed && (last + 1..=n).any(fires))
         };
         self.partial
             .iter()

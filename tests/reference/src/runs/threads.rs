@@ -47,12 +47,13 @@ impl Trail {
 type Threads = BTreeMap<Config, Trail>;
 type Fresh = Vec<(Config, Trail)>;
 
+/// Looks no further than the start's stretch.
 pub fn search(setting: &Setting, start: usize, seats: usize) -> Outcome {
     let mut threads = Threads::new();
     let mut fresh = Fresh::new();
     let mut width = 0;
     spread(setting, &Config::START, &Trail::EMPTY, start, &mut fresh);
-    for n in start..setting.log.events() {
+    for n in start..setting.log.around(start).end {
         if n > start {
             threads.retain(|config, trail| spread(setting, config, trail, n, &mut fresh));
         }
