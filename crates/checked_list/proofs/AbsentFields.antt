@@ -6,14 +6,11 @@ use mathlib.Core.Option.{some}
 use Rattle.refusal.specs.Refusals.{line}
 use Rattle.search.specs.Search.{without, searchAnswer}
 use Rattle.search.specs.declared.Verdict.the-variants.{Absent}
-use Rattle.checked_list.proofs.Bench.{definitions, hex, seats, analysed, done, rowOf, none, refused}
+use Rattle.checked_list.proofs.Bench.{definitions, hex, F, seats, analysed, done, rowOf, none, refused}
 
--- a trip at 500, a trip whose time is absent, an open at 520; and F of the bench: a trip binds its time, then an open
+-- a trip at 500, a trip whose time is absent, an open at 520; F of the bench: a trip binds its time, then an open
 abbrev between : List ℕ
 between = hex "0101 0100 02000001F400000001 03020000000000000001 020000020800000002 00"
-
-abbrev tripOpen : List ℕ
-tripOpen = hex "1000 1101 12010000000001 140000 1000 1102 12010000000002 1002 00"
 
 -- the time falls from 500 to 499 across the absent one, at byte 23
 abbrev fallen : List ℕ
@@ -23,14 +20,14 @@ fallen = hex "0101 0100 02000001F400000001 03020000000000000001 02000001F3000000
 abbrev never : List ℕ
 never = hex "0101 0100 03020000000000000001 03020000000000000001 00"
 
-abbrev at600 : List ℕ
+abbrev pub at600 : List ℕ
 at600 = hex "0101 0100 020000025800000001 03020000000000000001 00"
 
 abbrev at3 : List ℕ
 at3 = hex "0101 0100 020000000300000001 03020000000000000001 00"
 
 -- any event, then a code 9 before 600
-abbrev before600 : List ℕ
+abbrev pub before600 : List ℕ
 before600 = hex "1000 1101 1000 1102 12000200000258 12010000000009 1002 00"
 
 -- a code gathered, then a time into the same list, while its length stays below 2; while its sum stays below 1
@@ -61,9 +58,9 @@ stray = hex "0101 0100 03020000000100000001 00"
 -- The list.
 pub record AbsentFields : Type 0 where
   -- the trip without a time starts no run, and the run from the first waits past it
-  pub waits : analysed between tripOpen 3 ≡ done (rowOf 1 2 2 1 500 ++ (none ++ none))
+  pub waits : analysed between F 3 ≡ done (rowOf 1 2 2 1 500 ++ (none ++ none))
   -- "A rising field is compared with its last present value"
-  pub falls : refused fallen tripOpen ≡ some (line 1 6 23)
+  pub falls : refused fallen F ≡ some (line 1 6 23)
   -- "Hopeless steps are judged by the last present value up to n", also from before the start: dropped; with none: waits
   pub past : searchAnswer at600 before600 1 (seats 1) ≡ without Absent 0
   pub unknown : searchAnswer never before600 1 (seats 1) ≡ without Absent 1

@@ -85,7 +85,7 @@ abbrev L : List ℕ
 L = hex "0101 0100 02000001F400000001 02000001F400000002 00"
 
 -- "F, 28 bytes"
-abbrev F : List ℕ
+abbrev pub F : List ℕ
 F = hex "1000 1101 12010000000001 140000 1000 1102 12010000000002 1002 00"
 
 -- "G starts on code 2 with the same BIND; its second step is TESTV time equal variable 0, then TEST code 1"
@@ -97,7 +97,7 @@ abbrev exchanged : List ℕ
 exchanged = hex "0101 0100 02000001F400000002 02000001F400000001 00"
 
 -- L with "second time 499"
-abbrev back : List ℕ
+abbrev pub back : List ℕ
 back = hex "0101 0100 02000001F400000001 02000001F300000002 00"
 
 -- "G without its BIND"

@@ -7,18 +7,13 @@ use lib.ListN.{replicate}
 use Rattle.refusal.specs.Refusals.{line}
 use Rattle.search.specs.Search.{without, searchAnswer}
 use Rattle.search.specs.declared.Verdict.the-variants.{Absent}
-use Rattle.checked_list.proofs.Bench.{definitions, hex, seats, analysed, done, rowOf, none, searchRefused, refused}
+use Rattle.checked_list.proofs.Bench.{definitions, hex, F, back, seats, analysed, done, rowOf, none, searchRefused, refused}
+use Rattle.checked_list.proofs.AbsentFields.{at600, before600}
 
--- F of the bench: a trip binds its time, then an open
-abbrev tripOpen : List ℕ
-tripOpen = hex "1000 1101 12010000000001 140000 1000 1102 12010000000002 1002 00"
-
--- a trip at 500, and an open at 499 behind the clock's setting; the same without the mark
+-- a trip at 500, and an open at 499 behind the clock's setting; without the mark it is `back` of the bench. F of the bench: a trip binds its time, then an
+-- open
 abbrev setBack : List ℕ
 setBack = hex "0101 0100 02000001F400000001 04 02000001F300000002 00"
-
-abbrev fallen : List ℕ
-fallen = hex "0101 0100 02000001F400000001 02000001F300000002 00"
 
 -- a trip and an open, two marks running, a trip at 5 and an open at 9
 abbrev again : List ℕ
@@ -49,39 +44,32 @@ busy = hex "0100 0200000001 0200000001 0200000001 04 0200000001 00"
 abbrev everyEvent : List ℕ
 everyEvent = hex "1000 1101 1000 1101 00"
 
--- a time of 600, and behind a mark an event without one; the same without the mark
+-- a time of 600, and behind a mark an event without one; without the mark it is `at600`
 abbrev afresh : List ℕ
 afresh = hex "0101 0100 020000025800000001 04 03020000000000000001 00"
-
-abbrev kept : List ℕ
-kept = hex "0101 0100 020000025800000001 03020000000000000001 00"
-
--- any event, then a code 9 before 600
-abbrev before600 : List ℕ
-before600 = hex "1000 1101 1000 1102 12000200000258 12010000000009 1002 00"
 
 -- The list.
 pub record ClockMarks : Type 0 where
   -- "Rising fields begin afresh after it": accepted across a mark, 6 across none; "No run has events on both sides of a mark"
-  pub across : analysed setBack tripOpen 2 ≡ done (none ++ none)
-  pub across-none : refused fallen tripOpen ≡ some (line 1 6 13)
-  pub fresh-once : refused fallenAgain tripOpen ≡ some (line 1 6 23)
+  pub across : analysed setBack F 2 ≡ done (none ++ none)
+  pub across-none : refused back F ≡ some (line 1 6 13)
+  pub fresh-once : refused fallenAgain F ≡ some (line 1 6 23)
   -- "also twice running"; event numbers run through the whole log
-  pub twice : analysed again tripOpen 4 ≡ done (rowOf 1 1 2 1 500 ++ (none ++ (rowOf 1 3 2 1 5 ++ none)))
+  pub twice : analysed again F 4 ≡ done (rowOf 1 1 2 1 500 ++ (none ++ (rowOf 1 3 2 1 5 ++ none)))
   -- "allowed anywhere after the FIELDs", "a FIELD behind it is foreign"
-  pub anywhere : analysed around tripOpen 2 ≡ done (rowOf 1 1 2 1 500 ++ none)
-  pub too-early : refused markFirst tripOpen ≡ some (line 1 2 0)
-  pub behind : refused fieldBehind tripOpen ≡ some (line 1 2 3)
+  pub anywhere : analysed around F 2 ≡ done (rowOf 1 1 2 1 500 ++ none)
+  pub too-early : refused markFirst F ≡ some (line 1 2 0)
+  pub behind : refused fieldBehind F ≡ some (line 1 2 3)
   -- "At most 64 marks; the next is number 4"
   pub sixty-four : analysed (marked 64) everyEvent 0 ≡ done []
   pub sixty-fifth : refused (marked 65) everyEvent ≡ some (line 1 4 66)
   -- what waits after a stretch's last event counts, and behind it nothing waits: crowded in the first stretch and none in the second
-  pub waits : searchAnswer setBack tripOpen 0 (seats 1) ≡ without Absent 1
+  pub waits : searchAnswer setBack F 0 (seats 1) ≡ without Absent 1
   pub crowded : searchRefused busy everyEvent 0 (seats 1) ≡ some (line 3 11 1)
   pub roomy : searchAnswer busy everyEvent 3 (seats 1) ≡ without Absent 1
   pub last-of-stretch : searchAnswer busy everyEvent 2 (seats 1) ≡ without Absent 1
   -- "with no last present value": a step that is hopeless by 600 waits behind the mark
-  pub known : searchAnswer kept before600 1 (seats 1) ≡ without Absent 0
+  pub known : searchAnswer at600 before600 1 (seats 1) ≡ without Absent 0
   pub unknown : searchAnswer afresh before600 1 (seats 1) ≡ without Absent 1
 
 -- Each case holds by computing both sides.

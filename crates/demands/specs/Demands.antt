@@ -145,7 +145,7 @@ pub record SomeFormula (fields : ℕ) (f : List ℕ) : Type 0 where
   pub is : IsFormula fields f formula
 
 -- event n of the log is the n-th EVENT command of the file, 02 or 03, from 0: behind all FIELDs, n EVENTs and some clock marks, whatever its values; what it
--- sends are the event's values, none for an absent field, and the marks before it tell its stretch: "Event numbers" run through the whole log
+-- sends are the event's values, none for an absent field, and the marks before it tell its stretch; event numbers run through the whole log
 pub record Recorded (l : List ℕ) (t : LogFile) (n : ℕ) : Type 0 where
   pub before : List Entry
   pub sent : Payload

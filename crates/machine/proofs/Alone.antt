@@ -1,6 +1,6 @@
 -- A search of a log with clock marks is the search of its start's stretch taken as a log of its own, event numbers carried over.
 use Prim.Native.Nat.{ℕ, suc, _+_, _-_, _<_, _≤_}
-use mathlib.Core.Path.{_≡_, sym, ap, ap₂, fun-ext, _∙_}
+use mathlib.Core.Path.{_≡_, sym, ap, ap₂, _∙_}
 use native.Mathlib.Decide.{decLt}
 use native.Mathlib.Omega.{arith}
 use lib.ListN.{length}
@@ -10,14 +10,13 @@ use Rattle.event_log.specs.Latest.{latest, latestAt}
 use Rattle.event_log.proofs.Stretches.{firstOf, alone, Begins, first-begins, event-alone, stretch-alone, length-alone, latest-alone, recorded-alone}
 use Rattle.formula.specs.Formula.{Formula}
 use Rattle.formula.specs.Lookup.{stepAt}
-use Rattle.runs.specs.Machine.{Machine}
 use Rattle.runs.specs.inner.Search.{endOf, search}
 use Rattle.runs.specs.inner.Moved.{moved, carried}
 use Rattle.runs.proofs.Stretch.{end-most, end-after, inside}
 use Rattle.runs.proofs.Moved.{search-moved}
 use Rattle.runs.proofs.Alike.{search-alike}
-use Rattle.machine.specs.Configuration.{Config, same, start}
-use Rattle.machine.specs.Machine.{fireBy, fireAt, expiredBy, expiredAt, committed, final, machine}
+use Rattle.machine.specs.Configuration.{Config, same}
+use Rattle.machine.specs.Machine.{fireBy, fireAt, expiredBy, expiredAt, machine}
 
 -- event i's stretch as a log of its own
 abbrev pub stretchOf : Log → Formula → ℕ → Log
@@ -67,25 +66,11 @@ module _ (g : Log) (fm : Formula) (ok : Recorded g) (i : ℕ) (there : i < lengt
   unfolding expiredAt alone
   expires-alone c k n h = ap (expiredBy (g .fields) (stepAt fm (c .state) k) c) (seen-alone n h)
 
-  abbrev spanning : (ℕ → ℕ) → ℕ → Machine
-  spanning stretch events = record {
-    Config = Config;
-    same = same;
-    start = start;
-    committed = committed fm;
-    final = final fm;
-    fire = fireAt own fm;
-    expired = expiredAt own fm;
-    steps = 8;
-    stretch = stretch;
-    events = events;
-  }
-
   -- A search with any number of slots is answered by its start's stretch alone, and as if that were the whole log.
   pub search-alone : (slots : ℕ)
       → search (machine g fm) slots i ≡ carried (firstOf g i) (search (machine (stretchOf g fm i) fm) slots (i - firstOf g i))
   search-alone slots =
       search-moved (machine g fm) b slots i (begins .least)
       ∙ ap (carried b)
-      (search-alike (moved (machine g fm) b e) (fireAt own fm) (expiredAt own fm) fires-alone expires-alone slots (i - b)
-      ∙ ap₂ (λ s m. search (spanning s m) slots (i - b)) (sym (fun-ext (stretch-alone g b e))) (sym (length-alone g b e most)))
+      (search-alike (moved (machine g fm) b e) (fireAt own fm) (expiredAt own fm) fires-alone expires-alone (stretchAt own) (length (own .events))
+      (λ n. sym (stretch-alone g b e n)) (sym (length-alone g b e most)) slots (i - b))

@@ -1,6 +1,6 @@
 -- On a log without 03 a step fires, and is hopeless, in the words that the paper had before there were absent fields, and a search is answered as it was.
 use Prim.Native.Nat.{ℕ, suc, _<_}
-use mathlib.Core.Path.{_≡_, refl, ap, ap₂, fun-ext, _∙_}
+use mathlib.Core.Path.{_≡_, refl, ap, _∙_}
 use mathlib.Core.Bool.{Bool, true, false, not, _&&_, _||_, cond}
 use mathlib.Core.List.{List, [], _∷_, map}
 use mathlib.Core.Option.{Option, none, some}
@@ -186,8 +186,8 @@ abbrev expiredByBefore : List Kind → Option Step → Config → List ℕ → B
 expiredByBefore fields none c x = true
 expiredByBefore fields (some s) c x = expiredBefore fields c s x
 
-abbrev spanning : List Kind → List (List ℕ) → Formula → (ℕ → ℕ) → ℕ → Machine
-spanning ks vs fm stretch events = record {
+abbrev pub machineBefore : List Kind → List (List ℕ) → Formula → Machine
+machineBefore ks vs fm = record {
   Config = Config;
   same = same;
   start = start;
@@ -196,13 +196,9 @@ spanning ks vs fm stretch events = record {
   fire = λ c n k. fireByBefore (stepAt fm (c .state) k) c (getD vs n []);
   expired = λ c k n. expiredByBefore ks (stepAt fm (c .state) k) c (getD vs n []);
   steps = 8;
-  stretch = stretch;
-  events = events;
+  stretch = λ n. 0;
+  events = length vs;
 }
-
--- all in one stretch
-abbrev pub machineBefore : List Kind → List (List ℕ) → Formula → Machine
-machineBefore ks vs fm = spanning ks vs fm (λ n. 0) (length vs)
 
 -- A log of 02 alone, and a formula that is correct against it
 module _ (ks : List Kind) (vs : List (List ℕ)) (fm : Formula) (one : All (λ (v : List ℕ). length v ≡ length ks) vs) (right : Correct (length ks) fm) where
@@ -253,5 +249,4 @@ module _ (ks : List Kind) (vs : List (List ℕ)) (fm : Formula) (one : All (λ (
       rw (all-present vs)
       (search-alike (machine log fm) (machineBefore ks vs fm .fire) (machineBefore ks vs fm .expired)
       (λ c n k h. fires-before n (omega (arith, h, length-map vs whole)) c k)
-      (λ c k n h. expires-before n (omega (arith, h, length-map vs whole)) c k) slots i
-      ∙ ap₂ (λ s e. search (spanning ks vs fm s e) slots i) (fun-ext one-stretch) (length-map vs whole))
+      (λ c k n h. expires-before n (omega (arith, h, length-map vs whole)) c k) (λ n. 0) (length vs) one-stretch (length-map vs whole) slots i)

@@ -1,6 +1,6 @@
 -- A search of a log without 04 is answered as before there were clock marks: by all events from its start on.
 use Prim.Native.Nat.{ℕ, suc, _-_}
-use mathlib.Core.Path.{_≡_, refl, ap, ap₂, fun-ext, _∙_}
+use mathlib.Core.Path.{_≡_, refl, ap, _∙_}
 use mathlib.Core.List.{List, [], map}
 use native.Mathlib.Omega.{arith}
 use lib.ListN.{length, getD}
@@ -21,8 +21,8 @@ use Rattle.machine.specs.Machine.{fireBy, fireAt, expiredBy, expiredAt, 
 -- a log of 02 and 03 alone, by its fields' kinds and what its events send, and a formula
 module _ (ks : List Kind) (ps : List Payload) (fm : Formula) where
   -- its machine in the words of before: a step fires by the event's values, and is hopeless by the last present ones of all events up to it
-  abbrev spanning : (ℕ → ℕ) → ℕ → Machine
-  spanning stretch events = record {
+  abbrev pub machineUnmarked : Machine
+  machineUnmarked = record {
     Config = Config;
     same = same;
     start = start;
@@ -31,12 +31,9 @@ module _ (ks : List Kind) (ps : List Payload) (fm : Formula) where
     fire = λ c n k. fireBy (stepAt fm (c .state) k) c (getD (map valuesOf ps) n []);
     expired = λ c k n. expiredBy ks (stepAt fm (c .state) k) c (seenBefore (map valuesOf ps) (suc n));
     steps = 8;
-    stretch = stretch;
-    events = events;
+    stretch = λ n. 0;
+    events = length ps;
   }
-
-  abbrev pub machineUnmarked : Machine
-  machineUnmarked = spanning (λ n. 0) (length ps)
 
   -- the search of before, over all events from i on
   abbrev pub searchUnmarked : ℕ → ℕ → Answer machineUnmarked
@@ -65,6 +62,5 @@ module _ (ks : List Kind) (ps : List Payload) (fm : Formula) where
   pub search-unmarked : (slots i : ℕ) → search (machine (logOf (unmarkedFile ks ps)) fm) slots i ≡ searchUnmarked slots i
   search-unmarked slots i =
       search-alike (machine log fm) (machineUnmarked .fire) (machineUnmarked .expired) (λ c n k h. fires-unmarked c n k)
-      (λ c k n h. expires-unmarked c k n) slots i
-      ∙ ap₂ (λ s e. search (spanning s e) slots i) (fun-ext (one-stretch ks ps)) (length-sent ps)
+      (λ c k n h. expires-unmarked c k n) (λ n. 0) (length ps) (one-stretch ks ps) (length-sent ps) slots i
       ∙ search-whole slots i

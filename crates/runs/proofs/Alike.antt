@@ -1,5 +1,5 @@
 -- Two machines whose steps do the same on every event answer a search alike, whatever their steps would do beyond the last event.
-use mathlib.Core.Path.{_≡_, refl, ap, ap₂, fun-ext}
+use mathlib.Core.Path.{_≡_, refl, ap, ap₂, fun-ext, _∙_}
 use mathlib.Core.Bool.{Bool, not, _&&_, _||_}
 use mathlib.Core.Option.{Option}
 use mathlib.Core.List.{List, map}
@@ -14,9 +14,9 @@ use Rattle.runs.proofs.Stretch.{end-span}
 module _ (M : Machine) where
   open Machine M using (Config, same, start, committed, final, steps, stretch, events)
 
-  -- the machine with other steps
-  abbrev pub stepping : (Config → ℕ → ℕ → Option Config) → (Config → ℕ → ℕ → Bool) → Machine
-  stepping fire expired =
+  -- the machine with other steps, stretches and number of events
+  abbrev stepping : (Config → ℕ → ℕ → Option Config) → (Config → ℕ → ℕ → Bool) → (ℕ → ℕ) → ℕ → Machine
+  stepping fire expired parts number =
       record {
         Config = Config;
         same = same;
@@ -26,15 +26,15 @@ module _ (M : Machine) where
         fire = fire;
         expired = expired;
         steps = steps;
-        stretch = stretch;
-        events = events;
+        stretch = parts;
+        events = number;
       }
 
   module _ (fire : Config → ℕ → ℕ → Option Config) (expired : Config → ℕ → ℕ → Bool)
       (fires : (c : Config) (n k : ℕ) → n < events → M .fire c n k ≡ fire c n k)
       (expires : (c : Config) (k n : ℕ) → n < events → M .expired c k n ≡ expired c k n) where
     abbrev other : Machine
-    other = stepping fire expired
+    other = stepping fire expired stretch events
 
     -- one event
     module _ (n : ℕ) (h : n < events) where
@@ -83,7 +83,12 @@ module _ (M : Machine) where
           scan-alike slots f (suc n) (next other n ths) (max peak (waitingCount other n (next other n ths))) (omega (arith, h)),
         )
 
-    -- The answers are the same.
-    pub search-alike : (slots i : ℕ) → search M slots i ≡ search other slots i
+    steps-alike : (slots i : ℕ) → search M slots i ≡ search other slots i
     unfolding origin endFrom endOf search
-    search-alike slots i = scan-alike slots (endOf M i - i) i (origin M) 0 (omega (arith, end-span M i))
+    steps-alike slots i = scan-alike slots (endOf M i - i) i (origin M) 0 (omega (arith, end-span M i))
+
+    -- With the same stretches, and as many events, the answers are the same.
+    pub search-alike : (parts : ℕ → ℕ) (number : ℕ) → ((n : ℕ) → stretch n ≡ parts n) → events ≡ number → (slots i : ℕ)
+        → search M slots i ≡ search (stepping fire expired parts number) slots i
+    search-alike parts number same-parts same-number slots i =
+        steps-alike slots i ∙ ap₂ (λ p m. search (stepping fire expired p m) slots i) (fun-ext same-parts) same-number

@@ -13,9 +13,9 @@ use Rattle.runs.specs.Order.{events, numbers}
 use Rattle.runs.specs.Answer.{Answer}
 use Rattle.runs.specs.inner.Lists.{only, keep, inTurn, distinct}
 use Rattle.runs.specs.inner.Order.{then, lex, order}
-use Rattle.runs.specs.inner.Search.{Thread, begun, arrive, firing, chosen, moves, passesOver, stays, unended, offers, next, ended, endings, pick, lesser, leastFrom, least, anyAlive, hopeful, waiting, waitingCount, overfull, outcome, scan, origin, endFrom, endOf, search}
+use Rattle.runs.specs.inner.Search.{Thread, begun, arrive, firing, chosen, moves, passesOver, stays, unended, offers, next, ended, endings, pick, lesser, leastFrom, least, anyAlive, hopeful, waiting, waitingCount, overfull, outcome, scan, origin, endOf, search}
 use Rattle.runs.specs.inner.Moved.{moved, carriedTrail, carried}
-use Rattle.runs.proofs.Stretch.{end-least}
+use Rattle.runs.proofs.Stretch.{end-least, end-whole}
 
 -- ---- lists of which one is the other's image
 
@@ -204,16 +204,6 @@ module _ (M : Machine) (b e : ℕ) where
           ≡ on (b + suc n) (map lifted (next alone n ths)) w
       rest = ap₂ (on (suc (b + n))) (next-moved n ths) count ∙ ap (λ m. on m (map lifted (next alone n ths)) w) (omega arith)
 
-  -- by itself a stretch ends with its events
-  alone-from : (f n : ℕ) → endFrom alone 0 f n ≡ n + f
-  unfolding endFrom
-  alone-from zero n = omega arith
-  alone-from (suc f) n = alone-from f (suc n) ∙ omega arith
-
-  alone-end : (n : ℕ) → endOf alone n ≡ n + ((e - b) - n)
-  unfolding endOf
-  alone-end n = alone-from ((e - b) - n) n
-
 pub search-moved : (M : Machine) (b slots i : ℕ) → b ≤ i → search M slots i ≡ carried b (search (moved M b (endOf M i)) slots (i - b))
 unfolding origin search
 search-moved M b slots i h =
@@ -224,4 +214,4 @@ search-moved M b slots i h =
     from = omega (arith, h)
 
     left : endOf M i - i ≡ endOf (moved M b (endOf M i)) (i - b) - (i - b)
-    left = omega (arith, h, end-least M i, alone-end M b (endOf M i) (i - b))
+    left = omega (arith, h, end-least M i, end-whole (moved M b (endOf M i)) (i - b) (λ n h k. refl))
