@@ -8,3 +8,5 @@ pub mod Last
 pub mod AsBefore
 pub mod Unmarked
 pub mod Apart
+pub mod Untied
+pub mod Lacking

@@ -14,25 +14,24 @@ use Rattle.machine.specs.Firing.{isHeld, valueOf}
 use Rattle.base.proofs.Tests.{or-right}
 use Rattle.runs.proofs.Moves.{and-both}
 use Rattle.analysis.specs.Rows.{NamedRun, named, alike, tiedAlike, subsumes, subsumed}
-use Rattle.analysis.specs.inner.Demand.{SameValue, both, neither}
+use Rattle.analysis.specs.inner.Demand.{SameValue}
 
 or-one : (a b : Bool) → (a || b) ≡ true → (a ≡ true) ⊎ (b ≡ true)
 or-one true b h = inl refl
 or-one false b h = inr h
 
--- one variable: "held by both with one value or by neither"
+-- one variable: "held by both with one value"
 alike-in : (c d : Config) (v : ℕ) → alike (isHeld c v) (isHeld d v) (valueOf c v) (valueOf d v) ≡ true → SameValue c d v
 alike-in c d v h = go (isHeld c v) (isHeld d v) refl refl h
   where
     go : (x y : Bool) → isHeld c v ≡ x → isHeld d v ≡ y → alike x y (valueOf c v) (valueOf d v) ≡ true → SameValue c d v
-    go true true p q k = both p q (eqb-true (valueOf c v) (valueOf d v) k)
+    go true true p q k = record { earlier-holds = p; this-holds = q; one-value = eqb-true (valueOf c v) (valueOf d v) k }
     go true false p q k = absurd (false≢true k)
     go false true p q k = absurd (false≢true k)
-    go false false p q k = neither p q
+    go false false p q k = absurd (false≢true k)
 
 alike-out : (c d : Config) (v : ℕ) → SameValue c d v → alike (isHeld c v) (isHeld d v) (valueOf c v) (valueOf d v) ≡ true
-alike-out c d v (both p q e) = rw (p, q) (eq-eqb (valueOf c v) (valueOf d v) e)
-alike-out c d v (neither p q) = rw (p, q)
+alike-out c d v s = rw (s .earlier-holds, s .this-holds) (eq-eqb (valueOf c v) (valueOf d v) (s .one-value))
 
 module _ (f : Formula) (c d : Config) (t u : Trail) where
   tied-in : (vs : List ℕ) → tiedAlike vs (named f c t) (named f d u) ≡ true → (v : ℕ) → In v vs → SameValue c d v
@@ -52,15 +51,15 @@ module _ (f : Formula) (c d : Config) (t u : Trail) where
   tied-out (w ∷ ws) h = rw (alike-out c d w (h w (List·Memᴰ·head refl))) (tied-out ws (λ v m. h v (List·Memᴰ·tail m)))
 
   -- one earlier run, which ends in c, and this run, which ends in d
+  pub subsumes-out : (vs : List ℕ) (start : ℕ) → start ≤ last t → ((v : ℕ) → In v vs → SameValue c d v) → subsumes vs start (named f d u) (named f c t) ≡ true
+  unfolding subsumes named
+  subsumes-out vs start h k = rw (le-leb start (last t) h) (tied-out vs k)
+
   pub subsumes-in : (vs : List ℕ) (start : ℕ) → subsumes vs start (named f d u) (named f c t) ≡ true → (start ≤ last t) × ((v : ℕ) → In v vs → SameValue c d v)
   unfolding subsumes named
   subsumes-in vs start h =
       let k = and-both (leb start (last t)) (tiedAlike vs (named f c t) (named f d u)) h in
       (leb-true start (last t) (k .0), tied-in vs (k .1))
-
-  pub subsumes-out : (vs : List ℕ) (start : ℕ) → start ≤ last t → ((v : ℕ) → In v vs → SameValue c d v) → subsumes vs start (named f d u) (named f c t) ≡ true
-  unfolding subsumes named
-  subsumes-out vs start h k = rw (le-leb start (last t) h) (tied-out vs k)
 
 -- some earlier run subsumes this one
 pub record Subsumer (vs : List ℕ) (start : ℕ) (this : NamedRun) (es : List NamedRun) : Type 0 where

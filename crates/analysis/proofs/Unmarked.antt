@@ -1,4 +1,5 @@
--- An analysis of a log without 04 is answered, and its rows are written, as before there were clock marks.
+-- An analysis of a log without 04 is answered, and its rows are written, as before there were clock marks, by the tie rule of now: `Untied` says what that
+-- rule moved.
 use Prim.Native.Nat.{ℕ, _*_}
 use mathlib.Core.Path.{_≡_, fun-ext}
 use mathlib.Core.Bool.{cond}

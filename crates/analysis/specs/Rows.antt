@@ -24,14 +24,11 @@ pub record NamedRun : Type 0 where
 unfoldable pub named : Formula → Config → Trail → NamedRun
 named f c t = record { accepts = accepting f c; last = last t; steps = length t; held = c .held; values = c .values }
 
--- "held by both with one value or by neither", of one variable
+-- "held by both with one value", of one variable
 abbrev pub alike : Bool → Bool → ℕ → ℕ → Bool
-alike true true x y = eqb x y
-alike true false x y = false
-alike false true x y = false
-alike false false x y = true
+alike a b x y = a && (b && eqb x y)
 
--- The tie rule: "each tied variable is held by both with one value or by neither (the same tied values)"
+-- The tie rule, "A tie needs a value": "every tied variable is held by both with one value"
 unfoldable pub tiedAlike : List ℕ → NamedRun → NamedRun → Bool
 tiedAlike [] a b = true
 tiedAlike (v ∷ vs) a b = alike (getD (a .held) v false) (getD (b .held) v false) (getD (a .values) v 0) (getD (b .values) v 0) && tiedAlike vs a b

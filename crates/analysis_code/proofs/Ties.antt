@@ -1,7 +1,7 @@
 -- The tie rule over an array of flags is the tie rule over the operands of the TIEDs.
 use Prim.Native.Nat.{ℕ, zero, suc, _+_, _<_, _≤_}
 use mathlib.Core.Path.{_≡_, refl, sym, _∙_}
-use mathlib.Core.Bool.{Bool, true, false, cond, not, _&&_, _||_}
+use mathlib.Core.Bool.{Bool, true, false, cond, _&&_, _||_}
 use mathlib.Core.List.{List, [], _∷_}
 use native.Mathlib.Numerals.{add-one}
 use native.Mathlib.Omega.{arith}
@@ -12,13 +12,8 @@ use lib.Dec.{eqb}
 use Rattle.base.specs.Lists.{All}
 use Rattle.formula.specs.Lookup.{isTied}
 use Rattle.base.proofs.Tests.{and-left, and-right, and-true, both-ways}
-use Rattle.analysis.specs.Rows.{NamedRun, alike, tiedAlike}
+use Rattle.analysis.specs.Rows.{NamedRun, tiedAlike}
 use Rattle.analysis_code.specs.inner.Starts.{variablesFrom, variables, agrees}
-
--- a variable that one run does not hold
-pub unheld : (b : Bool) (x y : ℕ) → not b ≡ alike false b x y
-unheld true x y = refl
-unheld false x y = refl
 
 -- what the tie rule asks of variable v
 abbrev at : ℕ → NamedRun → NamedRun → Bool

@@ -67,18 +67,12 @@ fn run_in(part: &[u32]) -> RowRun
     }
 }
 
-// Whether a variable, if it is tied, is held by both runs with one value or by neither.
+// Whether a variable, if it is tied, is held by both runs with one value.
 fn agree(tied: bool, a: bool, x: u32, b: bool, y: u32) -> bool
     ensures { λ r. ⌜ r ≡ agrees tied a x b y ⌝ }
 {
     if tied {
-        if a {
-            if b {
-                return x == y;
-            }
-            return false;
-        }
-        return !b;
+        return base::both(a, base::both(b, x == y));
     }
     true
 }

@@ -4,3 +4,4 @@ pub mod Exchange
 pub mod Bounces
 pub mod AbsentFields
 pub mod ClockMarks
+pub mod LackingTies

@@ -92,20 +92,22 @@ module _ (l f : List ℕ) (g : Log) (fm : Formula) (words : ℕ) (acc : Accepted
   -- the tie rule of one variable, of the least runs from i and j
   module _ (i j : ℕ) (h : i < length (g .events)) (k : j < length (g .events)) (b c : Bool) (n : Least i b) (m : Least j c) (v : ℕ) where
     same-in : Page.SameValue l f words i j v → ByRuns.SameValue (n .config) (m .config) v
-    same-in (Page.both p q e) =
+    same-in o =
         let x = carried i h b n in
         let y = carried j k c m in
-        let s = sym (x .held v) ∙ p in
-        let t = sym (y .held v) ∙ q in
-        ByRuns.both s t (sym (x .values v s) ∙ e ∙ y .values v t)
-    same-in (Page.neither p q) = ByRuns.neither (sym (carried i h b n .held v) ∙ p) (sym (carried j k c m .held v) ∙ q)
+        let s = sym (x .held v) ∙ o .earlier-holds in
+        let t = sym (y .held v) ∙ o .this-holds in
+        record { earlier-holds = s; this-holds = t; one-value = sym (x .values v s) ∙ o .one-value ∙ y .values v t }
 
     same-out : ByRuns.SameValue (n .config) (m .config) v → Page.SameValue l f words i j v
-    same-out (ByRuns.both p q e) =
+    same-out o =
         let x = carried i h b n in
         let y = carried j k c m in
-        Page.both (x .held v ∙ p) (y .held v ∙ q) (x .values v p ∙ e ∙ sym (y .values v q))
-    same-out (ByRuns.neither p q) = Page.neither (carried i h b n .held v ∙ p) (carried j k c m .held v ∙ q)
+        record {
+          earlier-holds = x .held v ∙ o .earlier-holds;
+          this-holds = y .held v ∙ o .this-holds;
+          one-value = x .values v (o .earlier-holds) ∙ o .one-value ∙ sym (y .values v (o .this-holds));
+        }
 
   module _ (i : ℕ) (h : i < length (g .events)) where
     -- an earlier named run overlaps it, with the same tied values; so subsumed, and otherwise an alert

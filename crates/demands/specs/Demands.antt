@@ -262,16 +262,16 @@ module _ (l f : List ℕ) (words : ℕ) where
   abbrev pub lastEvent : ℕ → ℕ
   lastEvent i = getD (answer i .events) (answer i .steps - 1) 0
 
-  -- "each tied variable is held by both with one value or by neither", of one variable
-  pub data SameValue (i j v : ℕ) : Type 0 where
-    both : getD (answer i .held) v false ≡ true → getD (answer j .held) v false ≡ true → getD (answer i .values) v 0 ≡ getD (answer j .values) v 0
-        → SameValue i j v
-    neither : getD (answer i .held) v false ≡ false → getD (answer j .held) v false ≡ false → SameValue i j v
+  -- "every tied variable is held by both with one value", of one variable
+  pub record SameValue (i j v : ℕ) : Type 0 where
+    pub earlier-holds : getD (answer i .held) v false ≡ true
+    pub this-holds : getD (answer j .held) v false ≡ true
+    pub one-value : getD (answer i .values) v 0 ≡ getD (answer j .values) v 0
 
   -- .. and the formula that f holds
   module _ (fm : Formula) where
-    -- "an earlier start's named run, accepting or rejecting, ends at or after this start (overlaps it), and each tied variable is held by both
-    -- with one value or by neither"
+    -- "an earlier start's named run, accepting or rejecting, ends at or after this start (overlaps it)", and "every tied variable is held by
+    -- both with one value"; without TIED overlap alone
     pub record Overlapped (i : ℕ) : Type 0 where
       pub start : ℕ
       pub earlier : start < i

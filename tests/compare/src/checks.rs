@@ -7,6 +7,7 @@ use crate::product::{self, Found, LogRead, Refused, ACCEPT, NONE, REJECT};
 use reference::analysis::{self, ROW_WORDS};
 use reference::formula;
 use reference::log::Log;
+use reference::reach::ties;
 use reference::refusal::{Refusal, CROWDED};
 use reference::search::{self, Answer, Verdict, MOST_SEATS, SEAT_WORDS};
 
@@ -224,9 +225,13 @@ impl Comparison {
     }
 
     fn count_rows(&mut self, files: Files, rows: &[u32]) {
-        let events = Log::read(files.log).map_or(0, |log| log.events());
-        for row in rows.chunks(ROW_WORDS).take(events) {
+        let Ok((log, formula)) = search::read_both(files.log, files.formula) else {
+            return;
+        };
+        let rows = &rows[..ROW_WORDS * log.events()];
+        for row in rows.chunks(ROW_WORDS) {
             self.counts.rows[row[0] as usize] += 1;
         }
+        self.counts.ties(&ties::shown(&formula, rows));
     }
 }

@@ -2,6 +2,7 @@
 
 use crate::product::{Refused, ACCEPT, REJECT};
 use reference::reach::marks::{self, MET, OF_LOGS, READ};
+use reference::reach::ties::{self, SHOWN};
 use reference::reach::{NAMES, REACHED};
 use std::fmt;
 
@@ -29,6 +30,8 @@ pub struct Counts {
     pub marks: [usize; MET],
     /// Logs in which marks count, or are refused, likewise.
     pub clocks: [usize; READ],
+    /// Rows in which ties count, by the way that they do.
+    pub ties: [usize; SHOWN],
 }
 
 /// The numbers that such an event may have.
@@ -68,6 +71,12 @@ impl Counts {
         }
     }
 
+    pub fn ties(&mut self, shown: &[usize; SHOWN]) {
+        for (times, &shown) in self.ties.iter_mut().zip(shown) {
+            *times += shown;
+        }
+    }
+
     /// What the cases did not reach, of what they have to reach.
     pub fn missing(&self) -> Option<String> {
         let reached = [
@@ -86,7 +95,8 @@ impl Counts {
         let marks = marks::NAMES.into_iter().zip(self.marks);
         let clocks = OF_LOGS.into_iter().zip(self.clocks);
         let marks = marks.chain(clocks);
-        let mut other = reached.into_iter().chain(absent).chain(marks);
+        let ties = ties::NAMES.into_iter().zip(self.ties);
+        let mut other = reached.into_iter().chain(absent).chain(marks).chain(ties);
         match (refusal, lacking) {
             (Some(number), _) => Some(format!("refusal {number}")),
             (_, Some(number)) => Some(format!("refusal {number} at a 03")),
@@ -142,6 +152,10 @@ impl Counts {
             named(&OF_LOGS, &self.clocks)
         )
     }
+
+    fn write_ties(&self, out: &mut fmt::Formatter) -> fmt::Result {
+        write!(out, "; ties in rows: {}", named(&ties::NAMES, &self.ties))
+    }
 }
 
 impl fmt::Display for Counts {
@@ -165,6 +179,7 @@ impl fmt::Display for Counts {
             numbered(1..self.refusals.len(), &self.refusals),
         )?;
         self.write_absent(out)?;
-        self.write_marks(out)
+        self.write_marks(out)?;
+        self.write_ties(out)
     }
 }

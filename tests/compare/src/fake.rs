@@ -6,6 +6,7 @@ mod fault;
 mod lists;
 mod logs;
 mod marks;
+mod ties;
 
 pub use fault::{switch, Fault};
 
@@ -297,6 +298,7 @@ unsafe extern "C" fn hikwallu_analyse(
     let events = Log::read(log).map_or(0, |log| log.events());
     match answer {
         None => {
+            ties::judge_rows(log, formula, &mut lent[..12 * events]);
             spoil_rows(&mut lent[..12 * events], &before);
             marks::spoil_rows(log, &mut lent[..12 * events]);
         }

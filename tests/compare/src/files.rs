@@ -24,7 +24,7 @@ impl Pair {
 
 /// The bench's log with both its formulas, its events exchanged, its log of
 /// three events, tied and not, a formula that gathers, two logs whose events
-/// lack fields, and one whose clock was set.
+/// lack fields, one whose clock was set, and trips that lack a tied value.
 pub fn examples() -> Vec<Pair> {
     let log = "0101 0100 02000001F400000001 02000001F400000002 00";
     let exchanged = "0101 0100 02000001F400000002 02000001F400000001 00";
@@ -56,7 +56,20 @@ pub fn examples() -> Vec<Pair> {
         log: hex(log),
         formula: hex(formula),
     };
-    pairs.into_iter().map(pair).collect()
+    pairs.into_iter().chain(ties()).map(pair).collect()
+}
+
+/// Two trips and an open; a trip of code 1 binds the tied time, one of code 3
+/// does not. Both lack it, the later or the earlier does; and both, with
+/// nothing tied.
+fn ties() -> [(&'static str, &'static str); 4] {
+    let both = "0101 0100 020000000100000003 020000000200000003 020000000300000002 00";
+    let later = "0101 0100 020000000100000001 020000000200000003 020000000300000002 00";
+    let earlier = "0101 0100 020000000100000003 020000000200000001 020000000300000002 00";
+    let tied = "1600 1000 1101 12010000000001 140000 1101 12010000000003 \
+                1000 1102 12010000000002 1002 00";
+    let untied = &tied["1600 ".len()..];
+    [(both, tied), (later, tied), (earlier, tied), (both, untied)]
 }
 
 /// Formulas that name absent states: next to another, by a COUNT, far out of

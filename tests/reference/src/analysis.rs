@@ -66,9 +66,11 @@ fn verdict(setting: &Setting, earlier: &[Named], start: usize, run: &Run) -> u32
     }
 }
 
-/// Is each tied variable held by both with one value, or by neither?
+/// Is each tied variable held by both with one value? Of one that a run lacks
+/// nothing is known.
 fn same_tied(formula: &Formula, one: &Values, other: &Values) -> bool {
-    (0..VARIABLES).all(|v| !formula.tied[v] || one[v] == other[v])
+    let same = |v: usize| one[v].is_some() && one[v] == other[v];
+    (0..VARIABLES).all(|v| !formula.tied[v] || same(v))
 }
 
 fn write(row: &mut [u32], verdict: u32, run: &Run) {

@@ -12,6 +12,7 @@ mod limits;
 mod logs;
 mod marked;
 mod marks;
+mod ties;
 mod unarrived;
 mod windows;
 
@@ -36,6 +37,9 @@ pub struct Case {
 /// Marks are rolled apart, so that the same cases come without them.
 const CLOCK: u64 = 0xC10C_0000_0000;
 
+/// So are ties, where a case is of their own family.
+const TIES: u64 = 0x71E5_0000_0000;
+
 /// A case of any kind: good, at a limit, crowded, long or damaged; events of
 /// some logs lack fields, and in some the clock was set.
 pub fn case(seed: u64) -> Case {
@@ -51,6 +55,7 @@ pub fn case(seed: u64) -> Case {
         27..=29 => unarrived::pair(&mut dice),
         _ => limits::pair(&mut dice),
     };
+    (log, formula) = ties::seldom(seed ^ TIES).unwrap_or((log, formula));
     if dice.chance(30) {
         thin(&mut dice, &mut log);
     }
@@ -87,6 +92,7 @@ pub fn small(seed: u64) -> Case {
         8..=11 => unarrived::pair(&mut dice),
         _ => formulas::pair(&mut dice, false),
     };
+    (log, formula) = ties::seldom(seed ^ TIES ^ 0x5EED).unwrap_or((log, formula));
     if dice.chance(35) {
         thin(&mut dice, &mut log);
     }

@@ -1,7 +1,9 @@
 //! Where absent fields count in a search: told for cases with few runs, so
-//! that rolled cases are known to reach it. The same of marks: `marks`.
+//! that rolled cases are known to reach it. The same of marks: `marks`; of
+//! ties in rows: `ties`.
 
 pub mod marks;
+pub mod ties;
 
 use crate::formula::{Operator, Step};
 use crate::log::Log;

@@ -112,10 +112,12 @@ fn small_cases_often_have_hopeless_configurations() {
 /// Every list of events and every list of step numbers, kept where it replays.
 fn by_trying_all(setting: &Setting, start: usize) -> Vec<Run> {
     let mut found = Vec::new();
+    let states = setting.formula.states.iter();
+    let most = states.map(|state| state.steps.len()).max().unwrap_or(0);
     let mut open: Vec<(Vec<usize>, Vec<usize>)> = vec![(vec![start], Vec::new())];
     while let Some((events, steps)) = open.pop() {
         if steps.len() < events.len() {
-            for number in 0..3 {
+            for number in 0..most {
                 let mut more = steps.clone();
                 more.push(number);
                 open.push((events.clone(), more));
@@ -192,11 +194,12 @@ fn literal_row(setting: &Setting, named: &[Option<Run>], start: usize) -> Vec<u3
     };
     let covers = |other: &Run| {
         let overlaps = other.events.last() >= Some(&start);
-        let tied = (0..8).filter(|&v| setting.formula.tied[v]);
+        let mut tied = (0..8).filter(|&v| setting.formula.tied[v]);
         overlaps
-            && tied
-                .into_iter()
-                .all(|v| other.end.held[v] == run.end.held[v])
+            && tied.all(|v| match (other.end.held[v], run.end.held[v]) {
+                (Some(earlier), Some(later)) => earlier == later,
+                _ => false,
+            })
     };
     let verdict = if setting.kind(&run.end) == Kind::Reject {
         3

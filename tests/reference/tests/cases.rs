@@ -1,4 +1,5 @@
-//! The examples from the bench, M1 to M13, and the executed case.
+//! The examples from the bench, M1 to M13, the cases of ties that a run lacks,
+//! and the executed case.
 
 use reference::analysis::analyse;
 use reference::compose::*;
@@ -11,6 +12,9 @@ use reference::search::{search, Answer, Verdict};
 const L: &str = "0101 0100 02000001F400000001 02000001F400000002 00";
 const F: &str = "1000 1101 12010000000001 140000 1000 1102 12010000000002 1002 00";
 const G: &str = "1000 1101 12010000000002 140000 1000 1102 13000000 12010000000001 1002 00";
+/// Trips of two codes, of which the first alone binds the tied time.
+const C: &str = "1600 1000 1101 12010000000001 140000 1101 12010000000003 \
+                 1000 1102 12010000000002 1002 00";
 
 /// One seat's words, times.
 const SEAT: usize = 192;
@@ -137,6 +141,34 @@ fn m13_subsumed_unless_tied() {
     let tied = join(&[hex("1600"), hex(F)]);
     let apart = "0 alert 2 2 v0=1\n1 alert 2 2 v0=2\n2 none\n";
     assert_eq!(text(&log, &tied), apart);
+}
+
+/// Two trips of these codes at the times 1 and 2, then an open at 3.
+fn trips(one: u32, other: u32) -> Vec<u8> {
+    log(&[1, 0], &[&[1, one], &[2, other], &[3, 2]])
+}
+
+#[test]
+fn both_lack_the_tied_value() {
+    let bytes = hex("0101 0100 020000000100000003 020000000200000003 020000000300000002 00");
+    assert_eq!(trips(3, 3), bytes);
+    let apart = "0 alert 2 2\n1 alert 2 2\n2 none\n";
+    assert_eq!(text(&bytes, &hex(C)), apart);
+}
+
+#[test]
+fn one_lacks_the_tied_value() {
+    let later = "0 alert 2 2 v0=1\n1 alert 2 2\n2 none\n";
+    assert_eq!(text(&trips(1, 3), &hex(C)), later);
+    let earlier = "0 alert 2 2\n1 alert 2 2 v0=2\n2 none\n";
+    assert_eq!(text(&trips(3, 1), &hex(C)), earlier);
+}
+
+#[test]
+fn without_ties_overlap_is_enough() {
+    let untied = hex(C).split_off(2);
+    let one = "0 alert 2 2\n1 subsumed 2 2\n2 none\n";
+    assert_eq!(text(&trips(3, 3), &untied), one);
 }
 
 #[test]

@@ -93,29 +93,85 @@ fn tied_values_must_be_the_same() {
     assert_eq!(verdicts(&list, &watch(&[0])), [1, 2, 1, 0]);
     assert_eq!(verdicts(&list, &watch(&[1])), [1, 2, 2, 0]);
     assert_eq!(verdicts(&list, &watch(&[0, 1])), [1, 2, 1, 0]);
-    // Held by neither is the same too.
-    assert_eq!(verdicts(&list, &watch(&[5])), [1, 2, 2, 0]);
     // Any earlier run will do, not only the last one.
     let list = events(&[(1, 1), (1, 0), (1, 1), (2, 2)]);
     assert_eq!(verdicts(&list, &watch(&[0])), [1, 1, 2, 0]);
 }
 
+/// From any other code to the next code 2. Code 0 binds variable 3 to it, code
+/// 3 variable 4 to the time, code 5 both; 1 and 4 bind nothing, and what starts
+/// on 4 rejects.
+fn some_hold(ties: &[u8]) -> Vec<u8> {
+    let ties: Vec<Vec<u8>> = ties.iter().map(|&variable| tied(variable)).collect();
+    let starts = |code: u32, binds: &[Vec<u8>]| join(&[step(1), test(1, 0, code), join(binds)]);
+    file(&[
+        join(&ties),
+        join(&[state(0), starts(0, &[bind(1, 3)]), starts(1, &[])]),
+        starts(3, &[bind(0, 4)]),
+        starts(5, &[bind(1, 3), bind(0, 4)]),
+        join(&[step(2), test(1, 0, 4)]),
+        join(&[state(0), step(3), test(1, 0, 2)]),
+        join(&[state(0), step(4), test(1, 0, 2)]),
+        join(&[state(2), state(3)]),
+    ])
+}
+
 #[test]
 fn held_by_one_only_is_not_the_same() {
-    // Code 1 binds variable 3 to 0, code 0 does not.
-    let formula = file(&[
-        tied(3),
-        join(&[state(0), step(1), test(1, 0, 0), bind(1, 3)]),
-        join(&[step(1), test(1, 0, 1)]),
-        join(&[state(0), step(2), test(1, 0, 2)]),
-        state(2),
-    ]);
+    // The value that is held is 0, as that of a variable that is not.
     let list = events(&[(1, 0), (2, 1), (3, 2)]);
-    assert_eq!(verdicts(&list, &formula), [1, 1, 0]);
+    assert_eq!(verdicts(&list, &some_hold(&[3])), [1, 1, 0]);
+    let list = events(&[(1, 1), (2, 0), (3, 2)]);
+    assert_eq!(verdicts(&list, &some_hold(&[3])), [1, 1, 0]);
     let list = events(&[(1, 0), (2, 0), (3, 2)]);
-    assert_eq!(verdicts(&list, &formula), [1, 2, 0]);
+    assert_eq!(verdicts(&list, &some_hold(&[3])), [1, 2, 0]);
+}
+
+#[test]
+fn held_by_neither_is_not_the_same() {
     let list = events(&[(1, 1), (2, 1), (3, 2)]);
-    assert_eq!(verdicts(&list, &formula), [1, 2, 0]);
+    assert_eq!(verdicts(&list, &some_hold(&[3])), [1, 1, 0]);
+    // Without TIED nothing has to be held.
+    assert_eq!(verdicts(&list, &some_hold(&[])), [1, 2, 0]);
+    // A variable that no step binds.
+    let list = events(&[(1, 1), (1, 1), (1, 0), (2, 2)]);
+    assert_eq!(verdicts(&list, &watch(&[5])), [1, 1, 1, 0]);
+}
+
+#[test]
+fn every_tied_variable_has_to_be_held() {
+    // Held by both with one value: variable 3 alone, 4 alone, then both.
+    let list = events(&[(1, 0), (1, 0), (2, 2)]);
+    assert_eq!(verdicts(&list, &some_hold(&[3])), [1, 2, 0]);
+    assert_eq!(verdicts(&list, &some_hold(&[3, 4])), [1, 1, 0]);
+    assert_eq!(verdicts(&list, &some_hold(&[4, 3])), [1, 1, 0]);
+    let list = events(&[(1, 3), (1, 3), (2, 2)]);
+    assert_eq!(verdicts(&list, &some_hold(&[4])), [1, 2, 0]);
+    assert_eq!(verdicts(&list, &some_hold(&[3, 4])), [1, 1, 0]);
+    let list = events(&[(1, 5), (1, 5), (2, 2)]);
+    assert_eq!(verdicts(&list, &some_hold(&[3, 4])), [1, 2, 0]);
+    assert_eq!(verdicts(&list, &some_hold(&[3, 4, 7])), [1, 1, 0]);
+}
+
+#[test]
+fn a_rejecting_run_that_lacks_the_value_does_not_subsume() {
+    for later in [0, 1] {
+        let list = events(&[(1, 4), (2, later), (3, 2)]);
+        assert_eq!(verdicts(&list, &some_hold(&[3])), [3, 1, 0]);
+        assert_eq!(verdicts(&list, &some_hold(&[])), [3, 2, 0]);
+    }
+    // It stays rejected, whatever came before.
+    let list = events(&[(1, 1), (2, 4), (3, 2)]);
+    assert_eq!(verdicts(&list, &some_hold(&[3])), [1, 3, 0]);
+    assert_eq!(verdicts(&list, &some_hold(&[])), [1, 3, 0]);
+}
+
+#[test]
+fn runs_between_that_lack_the_value_do_not_count() {
+    let list = events(&[(1, 0), (2, 1), (3, 0), (4, 1), (5, 2)]);
+    assert_eq!(verdicts(&list, &some_hold(&[3])), [1, 1, 2, 1, 0]);
+    let list = events(&[(1, 1), (2, 0), (3, 4), (4, 0), (5, 2)]);
+    assert_eq!(verdicts(&list, &some_hold(&[3])), [1, 1, 3, 2, 0]);
 }
 
 #[test]

@@ -19,10 +19,11 @@ use Rattle.analysis.specs.declared.Outcome.the-variants.{Done, Refused}
 use Rattle.analysis.specs.Analysis.{Analysed}
 use Rattle.analysis.specs.Call.{rowAt}
 
--- "each tied variable is held by both with one value or by neither (the same tied values)", of one variable
-pub data SameValue (c d : Config) (v : ℕ) : Type 0 where
-  both : isHeld c v ≡ true → isHeld d v ≡ true → valueOf c v ≡ valueOf d v → SameValue c d v
-  neither : isHeld c v ≡ false → isHeld d v ≡ false → SameValue c d v
+-- "every tied variable is held by both with one value" (the same tied values), of one variable
+pub record SameValue (c d : Config) (v : ℕ) : Type 0 where
+  pub earlier-holds : isHeld c v ≡ true
+  pub this-holds : isHeld d v ≡ true
+  pub one-value : valueOf c v ≡ valueOf d v
 
 -- "last event, steps, a mask with bit v set if variable v is held, eight values (0 if not held)": the words of a row behind
 -- its verdict, of a run that ends in c
@@ -36,8 +37,8 @@ pub record Holds (r : List ℕ) (c : Config) (t : Trail) : Type 0 where
 
 -- a log and a formula, so many slots (the paper's seats)
 module _ (g : Log) (f : Formula) (slots : ℕ) where
-  -- "an earlier start's named run, accepting or rejecting, ends at or after this start (overlaps it), and each tied variable is
-  -- held by both with one value or by neither": c is where the run from i ends
+  -- "an earlier start's named run, accepting or rejecting, ends at or after this start (overlaps it)", and "every tied variable is
+  -- held by both with one value": c is where the run from i ends
   pub record Overlapped (i : ℕ) (c : Config) : Type 0 where
     pub start : ℕ
     pub earlier : start < i

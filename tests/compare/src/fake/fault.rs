@@ -153,6 +153,17 @@ faults! {
     NumbersAfresh,
     NumbersWithMarks,
     RowNumbersAfresh,
+    // Ties of two runs.
+    TieNeitherHolds,
+    TieOneHolds,
+    TieEarlierHolds,
+    TieLaterHolds,
+    TieUnheldAsZero,
+    TieValuesIgnored,
+    TieAnyIsEnough,
+    TieFirstAlone,
+    TieLackedByRejecting,
+    UntiedNeverSubsumed,
 }
 
 static FAULT: AtomicUsize = AtomicUsize::new(0);
