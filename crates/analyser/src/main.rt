@@ -132,7 +132,7 @@ fn answer(l: &[u8], f: &[u8], out: &mut [u8]) -> usize
     let outcome = analysis_code::analyse(l, f, &mut work, &mut rows);
     match outcome {
         Outcome::Done => {
-            let reading = event_log::read_log(l);
+            let reading = event_log_code::read_log(l);
             lines_in(&rows, reading.events, out)
         }
         Outcome::Refused(r) => refusal_in(r, out),

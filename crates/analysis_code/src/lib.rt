@@ -272,7 +272,7 @@ fn all_starts(
     requires { ⌜ (scope .slots * 192 ≤ length (now work)) × (1 ≤ scope .slots) × (scope .events ≤ 1024) × (12 * scope .events ≤ length (now rows)) × (length (now places) ≡ 1024) ⌝ }
     ensures { λ r. ⌜ AllStarts (now (l .entry)) (now (places .entry)) (now (f .entry)) (now (table .entry)) scope tied (now (rows .entry)) (now (rows .exit)) r ⌝ }
 {
-    let mut seen = event_log::none_seen();
+    let mut seen = event_log_code::none_seen();
     let mut end: usize = 0;
     let mut start: usize = 0;
     while start < scope.events {

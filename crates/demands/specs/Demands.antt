@@ -262,7 +262,7 @@ module _ (l f : List ℕ) (words : ℕ) where
   abbrev pub lastEvent : ℕ → ℕ
   lastEvent i = getD (answer i .events) (answer i .steps - 1) 0
 
-  -- "every tied variable is held by both with one value", of one variable
+  -- "every tied variable is held by both with one value" (the same tied values), of one variable v: the runs from i, the earlier start, and j
   pub record SameValue (i j v : ℕ) : Type 0 where
     pub earlier-holds : getD (answer i .held) v false ≡ true
     pub this-holds : getD (answer j .held) v false ≡ true

@@ -107,7 +107,7 @@ fn outcome_refusal(v: analysis::Outcome) -> Refused
 pub extern "C" fn hikwallu_read_log(l: &[u8]) -> LogRead
     ensures { λ r. ⌜ ExportsLog (now (l .entry)) r ⌝ }
 {
-    let reading = event_log::read_log(l);
+    let reading = event_log_code::read_log(l);
     let acceptance = reading.acceptance;
     LogRead {
         refused: file_refusal(acceptance),

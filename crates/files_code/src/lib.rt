@@ -26,7 +26,7 @@ fn first_of(log: Acceptance, formula: Acceptance) -> Acceptance
 pub fn read_files(l: &[u8], f: &[u8]) -> FilesReading
     ensures { λ r. ⌜ ReadsFiles (now (l .entry)) (now (f .entry)) r ⌝ }
 {
-    let log = event_log::read_log(l);
+    let log = event_log_code::read_log(l);
     let formula = formula_code::read_formula(f, log.fields);
     let ours = log.acceptance;
     let theirs = formula.acceptance;

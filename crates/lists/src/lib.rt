@@ -74,7 +74,7 @@ fn gather_entry(
         return;
     }
     if at < f.len() {
-        let loaded = event_log::event_at(l, fields, entry(places, event));
+        let loaded = event_log_code::event_at(l, fields, entry(places, event));
         let event = loaded.event;
         let values = event.values;
         gather_step(lists, f, at, &values);

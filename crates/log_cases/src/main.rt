@@ -12,7 +12,7 @@ fn put(n: usize) {
 
 // What the reader answers, on one line.
 fn show(l: &[u8]) {
-    let r = event_log::read_log(l);
+    let r = event_log_code::read_log(l);
     let acceptance = r.acceptance;
     match acceptance {
         Acceptance::Accepted => {

@@ -155,7 +155,7 @@ fn moment_of(n: usize, seen: Latest, event: Event) -> Moment
     requires { ⌜ n < 1024 ⌝ }
     ensures { λ r. ⌜ r ≡ momentOf n seen event ⌝ }
 {
-    let latest = event_log::later(seen, event);
+    let latest = event_log_code::later(seen, event);
     Moment {
         number: n as u32,
         event,
@@ -169,12 +169,12 @@ pub fn seen_after(l: &[u8], places: &[usize; 1024], scope: Scope, n: usize, seen
     ensures { λ r. ⌜ r ≡ seenNext (now (l .entry)) (scope .rules .fields) (getD (now (places .entry)) n 0) seen ⌝ }
 {
     let rules = scope.rules;
-    let loaded = event_log::event_at(l, rules.fields, places[n]);
-    if event_log::mark_at(l, loaded.next) {
-        return event_log::none_seen();
+    let loaded = event_log_code::event_at(l, rules.fields, places[n]);
+    if event_log_code::mark_at(l, loaded.next) {
+        return event_log_code::none_seen();
     }
     let event = loaded.event;
-    event_log::later(seen, event)
+    event_log_code::later(seen, event)
 }
 
 // The last present values before a start.
@@ -182,7 +182,7 @@ fn seen_before(l: &[u8], places: &[usize; 1024], scope: Scope, start: usize) -> 
     requires { ⌜ (start ≤ 1024) × (length (now places) ≡ 1024) ⌝ }
     ensures { λ r. ⌜ r ≡ seenTo (now (l .entry)) (now (places .entry)) (scope .rules .fields) start ⌝ }
 {
-    let mut seen = event_log::none_seen();
+    let mut seen = event_log_code::none_seen();
     let mut n: usize = 0;
     while n < start {
         seen = seen_after(l, places, scope, n, seen);
@@ -199,9 +199,9 @@ pub fn stretch_end(l: &[u8], places: &[usize; 1024], scope: Scope, start: usize)
     let rules = scope.rules;
     let mut n = start;
     while n < scope.events {
-        let loaded = event_log::event_at(l, rules.fields, places[n]);
+        let loaded = event_log_code::event_at(l, rules.fields, places[n]);
         n += 1;
-        if event_log::mark_at(l, loaded.next) {
+        if event_log_code::mark_at(l, loaded.next) {
             return n;
         }
     }
@@ -299,7 +299,7 @@ pub fn search_from(
     let mut seen = before;
     let mut n = start;
     while n < end {
-        let loaded = event_log::event_at(l, rules.fields, places[n]);
+        let loaded = event_log_code::event_at(l, rules.fields, places[n]);
         let event = loaded.event;
         let moment = moment_of(n, seen, event);
         seen = moment.latest;

@@ -19,7 +19,7 @@ use Rattle.analysis.specs.declared.Outcome.the-variants.{Done, Refused}
 use Rattle.analysis.specs.Analysis.{Analysed}
 use Rattle.analysis.specs.Call.{rowAt}
 
--- "every tied variable is held by both with one value" (the same tied values), of one variable
+-- "every tied variable is held by both with one value" (the same tied values), of one variable v: an earlier run ends in c, this one in d
 pub record SameValue (c d : Config) (v : ℕ) : Type 0 where
   pub earlier-holds : isHeld c v ≡ true
   pub this-holds : isHeld d v ≡ true
