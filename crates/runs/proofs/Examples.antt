@@ -13,7 +13,8 @@ use Rattle.runs.specs.inner.Lists.{keep, inTurn, has, distinct}
 use Rattle.runs.specs.inner.Order.{lex, order}
 use Rattle.runs.specs.Answer.{found, absent, crowded}
 use Rattle.runs.specs.inner.Search.{firing, moves, stays, unended, offers, next, endings, lesser, leastFrom, least, anyAlive, hopeful, waiting, waitingCount, scan, origin, endFrom, endOf, search}
-use Rattle.runs.specs.inner.Threads.{candidates, insert, insertWithin, follow, threads}
+use Rattle.runs.specs.inner.Threads.{insert, insertWithin}
+use Rattle.runs.specs.inner.Settle.{lasts, stayers, arrivals, movers, settle, pursue, swift}
 
 -- on three events, step 0 always fires and goes on, step 1 fires on event 2 and ends: a configuration is told by the number
 -- of steps taken and by whether it has ended
@@ -62,9 +63,9 @@ unfolding keep inTurn lex order firing moves stays unended offers next endings l
 longer-first = refl
 
 -- with one slot the search is crowded after event 1
-one-slot : threads late 1 0 ≡ crowded 1
-unfolding keep inTurn lex order firing moves stays unended offers next endings lesser leastFrom least anyAlive hopeful origin candidates insert insertWithin
-    follow endFrom endOf threads
+one-slot : swift late 1 0 ≡ crowded 1
+unfolding keep inTurn lex order firing moves stays unended endings lesser leastFrom least anyAlive hopeful origin insert insertWithin
+    lasts stayers arrivals movers settle pursue endFrom endOf swift
 one-slot = refl
 
 -- a search from before the mark finds nothing, though one waited after event 0

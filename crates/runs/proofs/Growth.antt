@@ -1,5 +1,4 @@
--- Laws in the shape in which loops meet them: the endings and the candidates of a list of threads, one thread and one step
--- number at a time.
+-- Laws in the shape in which loops meet them: the endings and the moves of a thread, one step number at a time.
 use mathlib.Core.Path.{_≡_, refl, ap, _∙_}
 use mathlib.Core.Bool.{Bool, true, false, _&&_}
 use mathlib.Core.Option.{Option, none, some}
@@ -7,11 +6,10 @@ use mathlib.Core.List.{List, [], _∷_, _++_, nil≢cons}
 use Prim.Native.Nat.{ℕ, suc, _<_}
 use native.Mathlib.Omega.{arith}
 use lib.ListN.{take}
-use Rattle.runs.specs.inner.Lists.{only, keep, inTurn}
+use Rattle.runs.specs.inner.Lists.{only, keep}
 use Rattle.runs.specs.Machine.{Machine}
 use Rattle.runs.specs.Run.{Quiet}
-use Rattle.runs.specs.inner.Search.{Thread, begun, arrive, firing, chosen, moves, passesOver, stays, offers, next, ended, lesser, leastFrom, hopeful}
-use Rattle.runs.specs.inner.Threads.{candidates}
+use Rattle.runs.specs.inner.Search.{Thread, begun, arrive, firing, chosen, moves, passesOver, stays, ended, lesser, leastFrom}
 use Rattle.runs.proofs.Moves.{stepped, first-fires, firing-quiet}
 
 -- ---- lists
@@ -27,7 +25,7 @@ module _ {A : Type 0} where
       go false e = e
 
 module _ (M : Machine) where
-  open Machine M using (Config, committed, final, fire, expired, steps)
+  open Machine M using (Config, committed, final, fire, steps)
 
   -- ---- the least so far
 
@@ -35,12 +33,6 @@ module _ (M : Machine) where
   unfolding leastFrom
   least-append best [] ys = refl
   least-append best (x ∷ xs) ys = least-append (some (lesser M best x)) xs ys
-
-  -- ---- one thread more
-
-  pub candidates-cons : (n : ℕ) (th : Thread M) (ths : List (Thread M)) → candidates M n (th ∷ ths) ≡ keep (hopeful M n) (offers M n th) ++ candidates M n ths
-  unfolding candidates next inTurn
-  candidates-cons n th ths = keep-append (hopeful M n) (offers M n th) (next M n ths)
 
   -- ---- one step number more
 

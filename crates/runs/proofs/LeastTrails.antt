@@ -183,7 +183,7 @@ module _ (M : Machine) (L : Laws M) where
 
   -- ---- a whole list inserted
 
-  insertAll-keeps : (ths bs : List (Thread M)) (x : Thread M) → Covered M ths x → Covered M (insertAll M ths bs) x
+  pub insertAll-keeps : (ths bs : List (Thread M)) (x : Thread M) → Covered M ths x → Covered M (insertAll M ths bs) x
   unfolding insertAll
   insertAll-keeps ths [] x c = c
   insertAll-keeps ths (b ∷ bs) x c = insertAll-keeps (insert M b ths) bs x (insert-keeps b ths x c)

@@ -11,10 +11,11 @@ pub mod Counts
 pub mod Unique
 pub mod LeastTrails
 pub mod Select
+pub mod Settle
 pub mod Within
 pub mod Growth
 pub mod OneByOne
-pub mod Loop
+pub mod Pursuit
 pub mod Alike
 pub mod Moved
 mod Examples

@@ -102,7 +102,7 @@ module _ {A : Type 0} where
           go b n (inl q) = List·Memᴰ·head q
           go b n (inr m) = List·Memᴰ·tail (w .keeps b m n)
 
-  at-most : (xs ys : List A) → Distinct xs → ((a : A) → In a xs → In a ys) → length xs ≤ length ys
+  pub at-most : (xs ys : List A) → Distinct xs → ((a : A) → In a xs → In a ys) → length xs ≤ length ys
   at-most [] ys d s = zero-le
   at-most (x ∷ xs) ys d s = go (without (s x (List·Memᴰ·head refl))) (λ zs h. at-most xs zs (d .1) h)
     where

@@ -1,7 +1,7 @@
 -- Inserting one by one within the slots: one list behind another, a thread that does not fit, and one that does.
 use mathlib.Core.Path.{_≡_, refl, ap}
 use mathlib.Core.Bool.{Bool, true, false}
-use mathlib.Core.Option.{Option, none, some}
+use mathlib.Core.Option.{none}
 use mathlib.Core.List.{List, [], _∷_, _++_}
 use Prim.Native.Nat.{ℕ, _≤_, _<_}
 use lib.Dec.{ltb}
@@ -9,24 +9,19 @@ use lib.ListN.{length}
 use borrow.Author.Tests.{lt-ltb, le-ltb}
 use Rattle.runs.specs.Machine.{Machine}
 use Rattle.runs.specs.inner.Search.{Thread}
-use Rattle.runs.specs.inner.Threads.{insert, within, insertWithin}
+use Rattle.runs.specs.inner.Threads.{insert, within, insertWithin, chain}
 
 module _ (M : Machine) where
-  -- what a further insertion makes of a list, where the first fitted
-  abbrev pub chain : Option (List (Thread M)) → (List (Thread M) → Option (List (Thread M))) → Option (List (Thread M))
-  chain none f = none
-  chain (some ths) f = f ths
-
   pub within-append : (slots : ℕ) (ths xs bs : List (Thread M))
-      → insertWithin M slots ths (xs ++ bs) ≡ chain (insertWithin M slots ths xs) (λ more. insertWithin M slots more bs)
+      → insertWithin M slots ths (xs ++ bs) ≡ chain M (insertWithin M slots ths xs) (λ more. insertWithin M slots more bs)
   unfolding insertWithin
   within-append slots ths [] bs = refl
   within-append slots ths (a ∷ xs) bs = go (ltb slots (length (insert M a ths))) (within-append slots (insert M a ths) xs bs)
     where
       go : (b : Bool)
-          → insertWithin M slots (insert M a ths) (xs ++ bs) ≡ chain (insertWithin M slots (insert M a ths) xs) (λ more. insertWithin M slots more bs)
+          → insertWithin M slots (insert M a ths) (xs ++ bs) ≡ chain M (insertWithin M slots (insert M a ths) xs) (λ more. insertWithin M slots more bs)
           → within M b (insertWithin M slots (insert M a ths) (xs ++ bs))
-          ≡ chain (within M b (insertWithin M slots (insert M a ths) xs)) (λ more. insertWithin M slots more bs)
+          ≡ chain M (within M b (insertWithin M slots (insert M a ths) xs)) (λ more. insertWithin M slots more bs)
       go true ih = refl
       go false ih = ih
 

@@ -1,16 +1,16 @@
 -- One least thread a configuration stands for all live threads: the same endings, the same count, event after event. So
--- the list of threads gives the definition's answer.
+-- every list that settles on each event gives the definition's answer.
 use mathlib.Core.Path.{_≡_, refl, sym, ap, ap₂, _∙_, subst}
 use mathlib.Core.Logic.{_⊎_, inl, inr}
 use mathlib.Core.Bool.{Bool, true, false, true≢false}
-use mathlib.Core.Option.{Option, none, some}
+use mathlib.Core.Option.{Option, none}
 use mathlib.Core.List.{List, [], _∷_, _++_, map, List·Memᴰ·not-nil}
-use Prim.Native.Nat.{ℕ, zero, suc, _+_, _-_, _≤_, _<_, zero-le, max}
+use Prim.Native.Nat.{ℕ, zero, suc, _+_, _-_, _≤_, _<_, max}
 use native.Mathlib.Nat.{le-refl}
 use native.Mathlib.Omega.{arith}
 use lib.Dec.{ltb}
 use lib.ListN.{length, length-map, length-append}
-use Rattle.runs.specs.Lists.{In}
+use Rattle.runs.specs.Lists.{In, Distinct}
 use Rattle.runs.specs.inner.Lists.{keep}
 use Rattle.runs.specs.Machine.{Machine}
 use Rattle.runs.specs.inner.Laws.{Laws}
@@ -18,15 +18,15 @@ use Rattle.runs.specs.Run.{Quiet, Follow}
 use Rattle.runs.specs.Waiting.{Hopeful}
 use Rattle.runs.specs.Answer.{Answer}
 use Rattle.runs.specs.inner.Search.{Thread, moves, stays, unended, offers, next, ended, endings, least, hopeful, waiting, waitingCount, overfull, outcome, scan, origin, endOf, search}
-use Rattle.runs.specs.inner.Threads.{candidates, advance, within, onward, follow, threads}
+use Rattle.runs.specs.inner.Threads.{candidates}
 use Rattle.runs.proofs.Lists.{only-in, only-first, only-rest, Passed, keep-in, keep-out, Given, turn-in, turn-out, Image, map-in, map-out, distinct-in, distinct-out, distinct-once, same-length}
 use Rattle.runs.proofs.Comparison.{AtMost, at-most-append}
 use Rattle.runs.proofs.Trails.{follow-one, follow-valid, start-weight}
 use Rattle.runs.proofs.Moves.{stepped, Moved, moves-in, moves-out, stays-in, stays-out, begun-same, unended-in, unended-out, hopeful-in, hopeful-out, hopeless-in}
 use Rattle.runs.proofs.Least.{some≢none, Under, least-agrees}
-use Rattle.runs.proofs.Stretch.{end-least, end-most, inside}
+use Rattle.runs.proofs.Stretch.{end-least, end-most, expired-on, expired-silent}
 use Rattle.runs.proofs.Reach.{Live, Exact, exact-next, exact-origin, endings-in, move-length}
-use Rattle.runs.proofs.LeastTrails.{configs, Covered, covered-trans, covered-self, insertAll-from, insertAll-covers, insertAll-once, fits}
+use Rattle.runs.proofs.LeastTrails.{configs, Covered, covered-trans, covered-self}
 
 module _ (M : Machine) where
   open Machine M using (Config, committed, fire, expired, steps)
@@ -40,6 +40,16 @@ module _ (M : Machine) where
   record Selects (i n : ℕ) (w all : List (Thread M)) : Type 0 where
     from : (th : Thread M) → In th w → In th all
     covers : (th : Thread M) → In th all → Covered M w th ⊎ Dead i n (th .config)
+
+  -- the list more is one least thread a configuration of what the threads of w offer on event n
+  pub record Settled (n : ℕ) (w more : List (Thread M)) : Type 0 where
+    pub from : (x : Thread M) → In x more → In x (candidates M n w)
+    pub covers : (x : Thread M) → In x (candidates M n w) → Covered M more x
+    pub once : Distinct (configs M more)
+
+  -- on every event the step settles a list of distinct configurations
+  abbrev pub Settles : (ℕ → List (Thread M) → List (Thread M)) → Type 0
+  Settles step = (n : ℕ) (w : List (Thread M)) → Distinct (configs M w) → Settled n w (step n w)
 
   -- ---- what holds of a thread holds of another in its configuration
 
@@ -73,7 +83,7 @@ module _ (M : Machine) where
       true≢false (sym (d .gone n (k .step) (le-refl n) l (k .known)) ∙ k .alive)
 
 module _ (M : Machine) (L : Laws M) where
-  open Machine M using (Config, same, start, final, stretch, events)
+  open Machine M using (Config, same, start, final, events)
 
   -- equal configurations have equally long trails
   same-steps : (i n : ℕ) (a b : Thread M) → Live M i n a → Live M i n b → a .config ≡ b .config → length (a .trail) ≡ length (b .trail)
@@ -84,13 +94,10 @@ module _ (M : Machine) (L : Laws M) where
   hopeless-dead : (i n : ℕ) (x : Thread M) → i ≤ events → i ≤ n → Live M i (suc n) x → hopeful M n x ≡ false → Dead M i (suc n) (x .config)
   hopeless-dead i n x z h l e =
       record {
-        silent = λ m k a b q. L .silent (x .config) k n m valid (one-stretch m a b) a (omega (arith, b, end-most M i z)) (hopeless-in M n x e k q);
-        gone = λ m k a b q. L .stable (x .config) k n m valid (one-stretch m a b) a (omega (arith, b, end-most M i z)) (hopeless-in M n x e k q);
+        silent = λ m k a b q. expired-silent M L i n m k (x .config) valid z h a b (hopeless-in M n x e k q);
+        gone = λ m k a b q. expired-on M L i n m k (x .config) valid z h a b (hopeless-in M n x e k q);
       }
     where
-      one-stretch : (m : ℕ) → n < m → m < endOf M i → stretch n ≡ stretch m
-      one-stretch m a b = inside M i n h (omega (arith, a, b)) ∙ sym (inside M i m (omega (arith, a, h)) b)
-
       valid : L .Valid (x .config)
       valid = follow-valid M L start (x .config) i (x .trail) (L .valid-start) (l .follows)
 
@@ -135,27 +142,27 @@ module _ (M : Machine) (L : Laws M) where
 
   -- ---- the same waiting configurations
 
-  candidate : (i n : ℕ) (w all : List (Thread M)) → n < endOf M i → Exact M i n all → Selects M i n w all → (x : Thread M) → In x (next M n all)
-      → hopeful M n x ≡ true → Covered M (advance M n w) x
-  unfolding next offers candidates advance
-  candidate i n w all l ex s x m h = of (turn-in (offers M n) all m)
+  candidate : (i n : ℕ) (w more all : List (Thread M)) → n < endOf M i → Settled M n w more → Exact M i n all → Selects M i n w all → (x : Thread M) → In x (next M n all)
+      → hopeful M n x ≡ true → Covered M more x
+  unfolding next offers candidates
+  candidate i n w more all l d ex s x m h = of (turn-in (offers M n) all m)
     where
-      enter : (t y : Thread M) → In t w → In y (offers M n t) → y .config ≡ x .config → AtMost (y .trail) (x .trail) → Covered M (advance M n w) x
+      enter : (t y : Thread M) → In t w → In y (offers M n t) → y .config ≡ x .config → AtMost (y .trail) (x .trail) → Covered M more x
       enter t y k o e a =
-          covered-trans M (advance M n w) y x e a
-          (insertAll-covers M L [] (candidates M n w) y (keep-out (hopeful M n) (turn-out (offers M n) k o) (hopeful-same M n x y e h)))
+          covered-trans M more y x e a
+          (d .covers y (keep-out (hopeful M n) (turn-out (offers M n) k o) (hopeful-same M n x y e h)))
 
       long : (th : Thread M) → In th all → (c : Covered M w th) → length (c .thread .trail) ≡ length (th .trail)
       long th k c = same-steps i n (c .thread) th (ex .sound (c .thread) (s .from (c .thread) (c .member))) (ex .sound th k) (c .config-is)
 
-      stay : (th : Thread M) → In th all → stays M n th ≡ true → x ≡ th → Covered M w th ⊎ Dead M i n (th .config) → Covered M (advance M n w) x
+      stay : (th : Thread M) → In th all → stays M n th ≡ true → x ≡ th → Covered M w th ⊎ Dead M i n (th .config) → Covered M more x
       stay th k e q (inl c) =
           enter (c .thread) (c .thread) (c .member)
           (only-first (keep (unended M) (moves M n (c .thread))) (stays-same M n th (c .thread) (c .config-is) (long th k c) e))
           (c .config-is ∙ ap (λ (y : Thread M). y .config) (sym q)) (subst (λ (y : Thread M). AtMost (c .thread .trail) (y .trail)) (sym q) (c .under))
       stay th k e q (inr d) = absurd (dead-hope M i n th l d (hopeful-same M n x th (ap (λ (y : Thread M). y .config) (sym q)) h))
 
-      move : (th : Thread M) → In th all → Moved M n th x → unended M x ≡ true → Covered M w th ⊎ Dead M i n (th .config) → Covered M (advance M n w) x
+      move : (th : Thread M) → In th all → Moved M n th x → unended M x ≡ true → Covered M w th ⊎ Dead M i n (th .config) → Covered M more x
       move th k v u (inl c) =
           enter (c .thread) y (c .member)
           (only-rest (stays M n (c .thread)) (c .thread) (keep-out (unended M) (shifted M n th x (c .thread) (c .config-is) v) open-still)) refl
@@ -175,35 +182,31 @@ module _ (M : Machine) (L : Laws M) where
           ))
       move th k v u (inr d) = absurd (dead-moves M i n th x l d v)
 
-      of : Given (offers M n) all x → Covered M (advance M n w) x
+      of : Given (offers M n) all x → Covered M more x
       of g = cases (only-in (stays M n (g .giver)) (g .gives))
         where
-          cases : ((stays M n (g .giver) ≡ true) × (x ≡ g .giver)) ⊎ In x (keep (unended M) (moves M n (g .giver))) → Covered M (advance M n w) x
+          cases : ((stays M n (g .giver) ≡ true) × (x ≡ g .giver)) ⊎ In x (keep (unended M) (moves M n (g .giver))) → Covered M more x
           cases (inl e) = stay (g .giver) (g .member) (e .0) (e .1) (s .covers (g .giver) (g .member))
           cases (inr k) =
               let q = keep-in (unended M) (moves M n (g .giver)) k in
               move (g .giver) (g .member) (moves-in M n (g .giver) x (q .member)) (q .passes) (s .covers (g .giver) (g .member))
 
   -- a thread of the next list is one of the live threads, and may wait
-  advanced : (i n : ℕ) (w all : List (Thread M)) → Selects M i n w all → (x : Thread M) → In x (advance M n w) → Passed (hopeful M n) (next M n all) x
-  unfolding next candidates advance
-  advanced i n w all s x m = go (insertAll-from M [] (candidates M n w) x m)
+  advanced : (i n : ℕ) (w more all : List (Thread M)) → Settled M n w more → Selects M i n w all → (x : Thread M) → In x more → Passed (hopeful M n) (next M n all) x
+  unfolding next candidates
+  advanced i n w more all d s x m =
+      let q = keep-in (hopeful M n) (next M n w) (d .from x m) in
+      record { member = up (turn-in (offers M n) w (q .member)); passes = q .passes }
     where
       up : Given (offers M n) w x → In x (next M n all)
       up g = turn-out (offers M n) (s .from (g .giver) (g .member)) (g .gives)
 
-      go : In x [] ⊎ In x (candidates M n w) → Passed (hopeful M n) (next M n all) x
-      go (inl h) = absurd (List·Memᴰ·not-nil h)
-      go (inr h) =
-          let q = keep-in (hopeful M n) (next M n w) h in
-          record { member = up (turn-in (offers M n) w (q .member)); passes = q .passes }
-
-  same-count : (i n : ℕ) (w all : List (Thread M)) → n < endOf M i → Exact M i n all → Selects M i n w all
-      → length (advance M n w) ≡ waitingCount M n (next M n all)
-  unfolding waiting waitingCount advance
-  same-count i n w all l ex s =
-      sym (length-map (advance M n w) config) ∙ same-length (configs M (advance M n w)) (waiting M n (next M n all))
-      (insertAll-once M L [] (candidates M n w) tt) (distinct-once same (L .same-equal) (L .equal-same) hoped) to back
+  same-count : (i n : ℕ) (w more all : List (Thread M)) → n < endOf M i → Settled M n w more → Exact M i n all → Selects M i n w all
+      → length more ≡ waitingCount M n (next M n all)
+  unfolding waiting waitingCount
+  same-count i n w more all l d ex s =
+      sym (length-map more config) ∙ same-length (configs M more) (waiting M n (next M n all))
+      (d .once) (distinct-once same (L .same-equal) (L .equal-same) hoped) to back
     where
       config : Thread M → Config
       config th = th .config
@@ -211,44 +214,45 @@ module _ (M : Machine) (L : Laws M) where
       hoped : List Config
       hoped = map (λ (th : Thread M). th .config) (keep (hopeful M n) (next M n all))
 
-      to : (c : Config) → In c (configs M (advance M n w)) → In c (waiting M n (next M n all))
-      to c m = of (map-in (λ (th : Thread M). th .config) (advance M n w) m)
+      to : (c : Config) → In c (configs M more) → In c (waiting M n (next M n all))
+      to c m = of (map-in (λ (th : Thread M). th .config) more m)
         where
-          of : Image (λ (th : Thread M). th .config) (advance M n w) c → In c (waiting M n (next M n all))
+          of : Image (λ (th : Thread M). th .config) more c → In c (waiting M n (next M n all))
           of g =
-              let q = advanced i n w all s (g .source) (g .member) in
+              let q = advanced i n w more all d s (g .source) (g .member) in
               subst (λ z. In z (waiting M n (next M n all))) (sym (g .is)) (distinct-out same (L .same-equal) (L .equal-same)
               (map-out (λ (th : Thread M). th .config) (keep-out (hopeful M n) (q .member) (q .passes))))
 
-      back : (c : Config) → In c (waiting M n (next M n all)) → In c (configs M (advance M n w))
+      back : (c : Config) → In c (waiting M n (next M n all)) → In c (configs M more)
       back c m = of (map-in (λ (th : Thread M). th .config) (keep (hopeful M n) (next M n all)) (distinct-in same (L .same-equal) (L .equal-same) hoped m))
         where
-          of : Image (λ (th : Thread M). th .config) (keep (hopeful M n) (next M n all)) c → In c (configs M (advance M n w))
+          of : Image (λ (th : Thread M). th .config) (keep (hopeful M n) (next M n all)) c → In c (configs M more)
           of g =
               let q = keep-in (hopeful M n) (next M n all) (g .member) in
-              let k = candidate i n w all l ex s (g .source) (q .member) (q .passes) in
-              subst (λ z. In z (configs M (advance M n w))) (k .config-is ∙ sym (g .is)) (map-out (λ (th : Thread M). th .config) (k .member))
+              let k = candidate i n w more all l d ex s (g .source) (q .member) (q .passes) in
+              subst (λ z. In z (configs M more)) (k .config-is ∙ sym (g .is)) (map-out (λ (th : Thread M). th .config) (k .member))
 
-  selects-next : (i n : ℕ) (w all : List (Thread M)) → i ≤ events → i ≤ n → n < endOf M i → Exact M i n all → Selects M i n w all
-      → Selects M i (suc n) (advance M n w) (next M n all)
-  selects-next i n w all z h l ex s = record { from = λ th m. advanced i n w all s th m .member; covers = λ th m. go th m (hopeful M n th) refl }
+  selects-next : (i n : ℕ) (w more all : List (Thread M)) → i ≤ events → i ≤ n → n < endOf M i → Settled M n w more → Exact M i n all → Selects M i n w all
+      → Selects M i (suc n) more (next M n all)
+  selects-next i n w more all z h l d ex s = record { from = λ th m. advanced i n w more all d s th m .member; covers = λ th m. go th m (hopeful M n th) refl }
     where
-      go : (th : Thread M) → In th (next M n all) → (b : Bool) → hopeful M n th ≡ b → Covered M (advance M n w) th ⊎ Dead M i (suc n) (th .config)
-      go th m true e = inl (candidate i n w all l ex s th m e)
+      go : (th : Thread M) → In th (next M n all) → (b : Bool) → hopeful M n th ≡ b → Covered M more th ⊎ Dead M i (suc n) (th .config)
+      go th m true e = inl (candidate i n w more all l d ex s th m e)
       go th m false e = inr (hopeless-dead i n th z h (exact-next M i n all h (omega (arith, l, end-most M i z)) ex .sound th m) e)
 
   -- ---- the same answer
 
-  same-scan : (slots i f n p : ℕ) (w all : List (Thread M)) → i ≤ events → i ≤ n → n + f ≡ endOf M i → Exact M i n all → Selects M i n w all
-      → scan M (advance M) (λ m ths. length ths) slots f n w p ≡ scan M (next M) (waitingCount M) slots f n all p
+  same-scan : (step : ℕ → List (Thread M) → List (Thread M)) → Settles M step → (slots i f n p : ℕ) (w all : List (Thread M)) → i ≤ events → i ≤ n
+      → n + f ≡ endOf M i → Distinct (configs M w) → Exact M i n all → Selects M i n w all
+      → scan M step (λ m ths. length ths) slots f n w p ≡ scan M (next M) (waitingCount M) slots f n all p
   unfolding scan
-  same-scan slots i zero n p w all z h e x s = refl
-  same-scan slots i (suc f) n p w all z h e x s =
+  same-scan step ok slots i zero n p w all z h e u x s = refl
+  same-scan step ok slots i (suc f) n p w all z h e u x s =
       ap₂ (λ (o : Option (Thread M)) (a : Answer M). outcome M o p a) (same-endings i n w all b l x s)
       (ap₂ (λ (k : ℕ) (a : Answer M). overfull M (ltb slots k) n a) count
-      (ap (λ (k : ℕ). scan M (advance M) (λ m ths. length ths) slots f (suc n) (advance M n w) (max p k)) count ∙
-      same-scan slots i f (suc n) (max p (waitingCount M n (next M n all))) (advance M n w) (next M n all) z (omega (arith, h)) (omega (arith, e))
-      (exact-next M i n all h b x) (selects-next i n w all z h l x s)))
+      (ap (λ (k : ℕ). scan M step (λ m ths. length ths) slots f (suc n) (step n w) (max p k)) count ∙
+      same-scan step ok slots i f (suc n) (max p (waitingCount M n (next M n all))) (step n w) (next M n all) z (omega (arith, h)) (omega (arith, e))
+      (ok n w u .once) (exact-next M i n all h b x) (selects-next i n w (step n w) all z h l (ok n w u) x s)))
     where
       l : n < endOf M i
       l = omega (arith, e)
@@ -256,32 +260,13 @@ module _ (M : Machine) (L : Laws M) where
       b : n < events
       b = omega (arith, l, end-most M i z)
 
-      count : length (advance M n w) ≡ waitingCount M n (next M n all)
-      count = same-count i n w all l x s
+      count : length (step n w) ≡ waitingCount M n (next M n all)
+      count = same-count i n w (step n w) all l (ok n w u) x s
 
-  follow-scan : (slots f n p : ℕ) (w : List (Thread M)) → follow M slots f n w p ≡ scan M (advance M) (λ m ths. length ths) slots f n w p
-  unfolding follow scan advance
-  follow-scan slots zero n p w = refl
-  follow-scan slots (suc f) n p w =
-      ap (outcome M (least M (endings M n w)) p)
-      (ap (λ o. onward M o n (λ more. follow M slots f (suc n) more (max p (length more)))) (fits M slots [] (candidates M n w) zero-le)
-      ∙ go (ltb slots (length (advance M n w))) (follow-scan slots f (suc n) (max p (length (advance M n w))) (advance M n w)))
-    where
-      rest : Answer M
-      rest = scan M (advance M) (λ m ths. length ths) slots f (suc n) (advance M n w) (max p (length (advance M n w)))
-
-      go : (b : Bool) → follow M slots f (suc n) (advance M n w) (max p (length (advance M n w))) ≡ rest
-          → onward M (within M b (some (advance M n w))) n (λ more. follow M slots f (suc n) more (max p (length more))) ≡ overfull M b n rest
-      go true ih = refl
-      go false ih = ih
-
-  -- the list of threads gives what the definition gives
-  pub threads-search : (slots i : ℕ) → i ≤ events → threads M slots i ≡ search M slots i
-  unfolding threads search
-  threads-search slots i z =
-      follow-scan slots (endOf M i - i) i 0 (origin M) ∙
-      same-scan slots i (endOf M i - i) i 0 (origin M) (origin M) z (le-refl i) (omega (arith, end-least M i)) (exact-origin M L i) (record {
-        from =
-            λ th m. m;
-        covers = λ th m. inl (covered-self M (origin M) th m);
-      })
+  -- a list that settles on every event gives what the definition gives
+  pub scan-search : (step : ℕ → List (Thread M) → List (Thread M)) → Settles M step → (slots i : ℕ) → i ≤ events
+      → scan M step (λ m ths. length ths) slots (endOf M i - i) i (origin M) 0 ≡ search M slots i
+  unfolding origin search
+  scan-search step ok slots i z =
+      same-scan step ok slots i (endOf M i - i) i 0 (origin M) (origin M) z (le-refl i) (omega (arith, end-least M i)) (λ m. List·Memᴰ·not-nil m, tt)
+      (exact-origin M L i) (record { from = λ th m. m; covers = λ th m. inl (covered-self M (origin M) th m) })

@@ -2,6 +2,7 @@
 use mathlib.Core.Path.{_≡_, refl, sym, ap, _∙_}
 use mathlib.Core.Logic.{_⊎_, inl, inr}
 use mathlib.Core.Bool.{Bool, true, false, cond}
+use mathlib.Core.Option.{none}
 use mathlib.Core.List.{[], _∷_, List·Memᴰ·not-nil}
 use Prim.Native.Nat.{ℕ, zero, suc, _+_, _-_, _≤_, _<_}
 use native.Mathlib.Nat.{eq-or-lt-of-le}
@@ -82,6 +83,10 @@ module _ (M : Machine) where
   pub inside : (i n : ℕ) → i ≤ n → n < endOf M i → stretch n ≡ stretch i
   inside i n h l = end-ended i .same n h l
 
+  -- two events before the end are of one stretch
+  one-stretch : (i n m : ℕ) → i ≤ n → n < m → m < endOf M i → stretch n ≡ stretch m
+  one-stretch i n m h a b = inside i n h (omega (arith, a, b)) ∙ sym (inside i m (omega (arith, a, h)) b)
+
   -- ---- trails
 
   unbroken-last : (i : ℕ) (x : Entry) (t : Trail) → Unbroken M i (x ∷ t) → stretch (last (x ∷ t)) ≡ stretch i
@@ -102,7 +107,7 @@ module _ (M : Machine) where
   )
 
 module _ (M : Machine) (L : Laws M) where
-  open Machine M using (Config, stretch, events)
+  open Machine M using (Config, fire, expired, stretch, events)
 
   -- an event of the start's stretch comes before the end
   pub outside : (i n : ℕ) → i ≤ n → n < events → stretch n ≡ stretch i → n < endOf M i
@@ -117,6 +122,13 @@ module _ (M : Machine) (L : Laws M) where
 
   pub run-inside : (i : ℕ) (t : Trail) (e : Config) → Run M i t e → last t < endOf M i
   run-inside i t e r = outside i (last t) (run-from M i t e r) (run-there M i t e r) (run-stretch M i t e r)
+
+  -- a step that is expired after an event of the stretch is expired after every later one of it, and fires on none
+  pub expired-on : (i n m k : ℕ) (c : Config) → L .Valid c → i ≤ events → i ≤ n → n < m → m < endOf M i → expired c k n ≡ true → expired c k m ≡ true
+  expired-on i n m k c v z h a b e = L .stable c k n m v (one-stretch M i n m h a b) a (omega (arith, b, end-most M i z)) e
+
+  pub expired-silent : (i n m k : ℕ) (c : Config) → L .Valid c → i ≤ events → i ≤ n → n < m → m < endOf M i → expired c k n ≡ true → fire c m k ≡ none
+  expired-silent i n m k c v z h a b e = L .silent c k n m v (one-stretch M i n m h a b) a (omega (arith, b, end-most M i z)) e
 
   -- behind the end nothing waits
   pub none-waits : (i n : ℕ) → i ≤ n → n < events → endOf M i ≤ n → Count M i n 0

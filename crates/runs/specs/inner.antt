@@ -4,5 +4,6 @@ pub mod Laws
 pub mod Order
 pub mod Search
 pub mod Threads
+pub mod Settle
 pub mod Moved
 pub mod Demand

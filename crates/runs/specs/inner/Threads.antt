@@ -1,15 +1,15 @@
--- The search as a list of threads: one least trail a configuration, nothing kept whose steps have all expired, and no
--- more threads than slots. It gives what `search` gives.
+-- Lists of threads: what may wait after an event, inserting so that each configuration keeps its least trail, and giving up
+-- where there are more threads than slots.
 use mathlib.Core.Bool.{Bool, true, false}
 use mathlib.Core.Option.{Option, none, some}
 use mathlib.Core.List.{List, [], _∷_}
-use Prim.Native.Nat.{ℕ, zero, suc, _-_, max}
+use Prim.Native.Nat.{ℕ}
 use lib.Dec.{ltb}
 use lib.ListN.{length}
 use Rattle.runs.specs.inner.Lists.{keep}
 use Rattle.runs.specs.Machine.{Machine}
-use Rattle.runs.specs.Answer.{Answer, absent, crowded}
-use Rattle.runs.specs.inner.Search.{Thread, next, endings, lesser, least, hopeful, outcome, origin, endOf}
+use Rattle.runs.specs.Answer.{Answer, crowded}
+use Rattle.runs.specs.inner.Search.{Thread, next, lesser, hopeful}
 
 module _ (M : Machine) where
   open Machine M using (same)
@@ -31,15 +31,11 @@ module _ (M : Machine) where
   insertAll ths [] = ths
   insertAll ths (b ∷ bs) = insertAll (insert b ths) bs
 
-  -- the waiting list after event n
-  unfoldable pub advance : ℕ → List (Thread M) → List (Thread M)
-  advance n ths = insertAll [] (candidates n ths)
-
   abbrev pub within : Bool → Option (List (Thread M)) → Option (List (Thread M))
   within true rest = none
   within false rest = rest
 
-  -- the same, given up as soon as an insert makes the list longer than there are slots
+  -- all inserted, given up as soon as an insert makes the list longer than there are slots
   unfoldable pub insertWithin : ℕ → List (Thread M) → List (Thread M) → Option (List (Thread M))
   insertWithin slots ths [] = some ths
   insertWithin slots ths (b ∷ bs) =
@@ -47,16 +43,12 @@ module _ (M : Machine) where
       let rest = insertWithin slots more bs in
       within (ltb slots (length more)) rest
 
+  -- what a further insertion makes of a list, where the first fitted
+  abbrev pub chain : Option (List (Thread M)) → (List (Thread M) → Option (List (Thread M))) → Option (List (Thread M))
+  chain none f = none
+  chain (some ths) f = f ths
+
+  -- what follows a list that fitted; crowded after event n, where none did
   abbrev pub onward : Option (List (Thread M)) → ℕ → (List (Thread M) → Answer M) → Answer M
   onward none n go = crowded n
   onward (some ths) n go = go ths
-
-  -- from event n on, for so many events: the least ending; else crowded; else the next event
-  unfoldable pub follow : ℕ → ℕ → ℕ → List (Thread M) → ℕ → Answer M
-  follow slots zero n ths peak = absent peak
-  follow slots (suc f) n ths peak =
-      let rest = onward (insertWithin slots [] (candidates n ths)) n (λ more. follow slots f (suc n) more (max peak (length more))) in
-      outcome M (least M (endings M n ths)) peak rest
-
-  unfoldable pub threads : ℕ → ℕ → Answer M
-  threads slots i = follow slots (endOf M i - i) i (origin M) 0
