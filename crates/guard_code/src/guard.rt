@@ -1,9 +1,9 @@
 // The value of a guard, by recursion over its bytes.
-use crate::Evaluated;
 ghost use mathlib.Core.Path.{_≡_};
-ghost use Prim.Native.Nat.{_-_, _+_, min};
-ghost use lib.ListN.{getD};
-ghost use Rattle.guard_code.specs.inner.Bytes.{operandsOf, applied, leafValue, leafWidth, leafUsed, evaluated, guardAt};
+ghost use Prim.Native.Nat.{_-_, _+_, _%_, _/_, _<_, _≤_, min};
+ghost use lib.ListN.{getD, length, drop};
+ghost use Rattle.guard_code.specs.inner.Bytes.{operandsOf, applied, leafFirst, leafIn, leafValue, leafWidth, leafUsed, compound, guardAt};
+ghost use Rattle.guard_code.specs.inner.Packed.{most, Packed, ConstantPacked, LeafPacked, Laid};
 
 // "ADD stops at 4294967295".
 pub fn sum(a: u32, b: u32) -> u32
@@ -60,36 +60,33 @@ pub fn value_of(values: &[u32], n: u32) -> u32
     if i < values.len() { values[i] } else { 0 }
 }
 
-// The value of a command without operands. A list is written 8 + v; its sum, its length and its number of different values stand at v, 4 + v and 8 + v.
-fn leaf_value(part: &[u8], values: &[u32], counters: &[u32], tallies: &[u32]) -> u32
-    ensures { λ r. ⌜ r ≡ leafValue (now (values .entry)) (now (counters .entry)) (now (tallies .entry)) (now (part .entry)) ⌝ }
+// Where among the leaves' values a command without operands counts its operand from, 36 for any other byte. A list is written 8 + v.
+fn first_of(command: u32) -> usize
+    ensures { λ r. ⌜ r ≡ leafFirst command ⌝ }
 {
-    let command = base::byte_at(part, 0);
-    let operand = base::byte_at(part, 1);
-    match command {
-        0x20 => base::value_at(part, 1),
-        0x21 => value_of(values, operand),
-        0x22 => value_of(counters, operand),
-        0x2C => value_of(tallies, difference(operand, 8)),
-        0x2D => value_of(tallies, difference(operand, 4)),
-        0x2E => value_of(tallies, operand),
-        _ => 0,
+    if command == 0x22 {
+        return 20;
     }
+    if command == 0x21 {
+        return 0;
+    }
+    if command < 0x2C {
+        return 36;
+    }
+    if 0x2E < command {
+        return 36;
+    }
+    (command - 0x2C) as usize * 4
 }
 
 // The width of a command without operands, 0 for any other byte.
 fn leaf_width(command: u32) -> usize
     ensures { λ r. ⌜ r ≡ leafWidth command ⌝ }
 {
-    match command {
-        0x20 => 5,
-        0x21 => 2,
-        0x22 => 2,
-        0x2C => 2,
-        0x2D => 2,
-        0x2E => 2,
-        _ => 0,
+    if command == 0x20 {
+        return 5;
     }
+    if first_of(command) == 36 { 0 } else { 2 }
 }
 
 // The bytes of the command without operands at the front, as far as there are any.
@@ -104,45 +101,112 @@ pub fn leaf_used(part: &[u8]) -> usize
     }
 }
 
-// The value of the expression at the front, and the bytes that it takes; at most so many commands nested.
-fn evaluate(
-    part: &[u8],
-    values: &[u32],
-    counters: &[u32],
-    tallies: &[u32],
-    depth: usize,
-) -> Evaluated
-    ensures { λ r. ⌜ r ≡ evaluated depth (leafValue (now (values .entry)) (now (counters .entry)) (now (tallies .entry))) (now (part .entry)) ⌝ }
+// An expression's value and the place behind it in one number, which a register holds.
+fn pack(value: u32, next: usize) -> usize
+    requires { ⌜ next < 4294967296 ⌝ }
+    ensures { λ r. ⌜ (r % 4294967296 ≡ value) × (r / 4294967296 ≡ next) ⌝ }
+{
+    next * 4294967296 + value as usize
+}
+
+// The value in such a number.
+fn value_in(r: usize) -> u32
+    ensures { λ v. ⌜ v ≡ r % 4294967296 ⌝ }
+{
+    (r % 4294967296) as u32
+}
+
+// The place in such a number.
+fn next_in(r: usize) -> usize
+    ensures { λ n. ⌜ n ≡ r / 4294967296 ⌝ }
+{
+    r / 4294967296
+}
+
+// The constant at an offset and the place behind it; 0 where it is cut short.
+fn constant(part: &[u8], at: usize) -> usize
+    requires { ⌜ at + 5 < 4294967296 ⌝ }
+    ensures { λ r. ⌜ ConstantPacked r at (now (part .entry)) ⌝ }
+{
+    if part.len() < at + 5 {
+        return 0;
+    }
+    pack(base::value_inside(part, at + 1), at + 5)
+}
+
+// The value of the command without operands at an offset and the place behind it; 0 where none stands there whole.
+fn leaf(part: &[u8], at: usize, leaves: &[u32; 36]) -> usize
+    requires { ⌜ (at + 5 < 4294967296) × (length (now leaves) ≡ 36) ⌝ }
+    ensures { λ r. ⌜ LeafPacked r at (leafIn (now (leaves .entry))) (drop at (now (part .entry))) ⌝ }
+{
+    if part.len() <= at + 1 {
+        return 0;
+    }
+    let command = base::wide(part[at]);
+    if command == 0x20 {
+        return constant(part, at);
+    }
+    let first = first_of(command);
+    if first == 36 {
+        return 0;
+    }
+    let i = first + base::wide(part[at + 1]) as usize;
+    if i < 36 {
+        return pack(leaves[i], at + 2);
+    }
+    pack(0, at + 2)
+}
+
+// The value of the command with operands at an offset and the place behind it; at most so many such commands nested.
+fn evaluate(part: &[u8], at: usize, leaves: &[u32; 36], depth: usize) -> usize
+    requires { ⌜ (at + most depth < 4294967296) × (length (now leaves) ≡ 36) ⌝ }
+    ensures { λ r. ⌜ Packed r at (compound depth (leafIn (now (leaves .entry))) (drop at (now (part .entry)))) ⌝ }
 {
     if depth == 0 {
-        return Evaluated { value: 0, used: 0 };
+        return pack(0, at);
     }
-    let command = base::byte_at(part, 0);
-    let operands = operand_count(command);
-    if operands == 0 {
-        let value = leaf_value(part, values, counters, tallies);
-        let used = leaf_used(part);
-        return Evaluated { value, used };
+    let command = base::byte_at(part, at);
+    if operand_count(command) == 0 {
+        return pack(0, at);
     }
     let inner = depth - 1;
-    let a = evaluate(&part[1..], values, counters, tallies, inner);
-    let second = 1 + a.used;
-    if operands == 1 {
-        return Evaluated {
-            value: apply(command, a.value, 0, 0),
-            used: second,
-        };
+    let first = at + 1;
+    let mut a = leaf(part, first, leaves);
+    if a == 0 {
+        a = evaluate(part, first, leaves, inner);
     }
-    let b = evaluate(&part[second..], values, counters, tallies, inner);
-    let third = second + b.used;
-    if operands == 2 {
-        let value = apply(command, a.value, b.value, 0);
-        return Evaluated { value, used: third };
+    let second = next_in(a);
+    if command == 0x28 {
+        return pack(apply(0x28, value_in(a), 0, 0), second);
     }
-    let d = evaluate(&part[third..], values, counters, tallies, inner);
-    let value = apply(command, a.value, b.value, d.value);
-    let used = third + d.used;
-    Evaluated { value, used }
+    let mut b = leaf(part, second, leaves);
+    if b == 0 {
+        b = evaluate(part, second, leaves, inner);
+    }
+    let third = next_in(b);
+    if command == 0x2B {
+        let mut d = leaf(part, third, leaves);
+        if d == 0 {
+            d = evaluate(part, third, leaves, inner);
+        }
+        return pack(
+            apply(0x2B, value_in(a), value_in(b), value_in(d)),
+            next_in(d),
+        );
+    }
+    pack(apply(command, value_in(a), value_in(b), 0), third)
+}
+
+// The leaves' values with more of them, behind the first n.
+fn lay(leaves: &mut [u32; 36], n: usize, more: &[u32])
+    requires { ⌜ n + length (now more) ≤ 36 ⌝ }
+    ensures { λ _. ⌜ Laid n (now (more .entry)) (now (leaves .entry)) (now (leaves .exit)) ⌝ }
+{
+    let mut i: usize = 0;
+    while i < more.len() {
+        leaves[n + i] = more[i];
+        i += 1;
+    }
 }
 
 // Whether the guard at an offset is nonzero; where none stands, true.
@@ -157,9 +221,17 @@ pub fn guard_holds(
 {
     let command = base::byte_at(f, at);
     if command == 0x15 {
+        let mut leaves = [0u32; 36];
+        lay(&mut leaves, 0, &values);
+        lay(&mut leaves, 8, &tallies);
+        lay(&mut leaves, 20, &counters);
         let from = at + 1;
-        let e = evaluate(&f[from..], &values, &counters, &tallies, 8);
-        return 0 < e.value;
+        let part = &f[from..];
+        let mut e = leaf(part, 0, &leaves);
+        if e == 0 {
+            e = evaluate(part, 0, &leaves, 8);
+        }
+        return 0 < value_in(e);
     }
     true
 }

@@ -2,12 +2,6 @@
 pub mod guard;
 pub mod trends;
 
-// The value of an expression, and the bytes that it took.
-struct Evaluated {
-    value: u32,
-    used: usize,
-}
-
 // Which leaves are rising, or which are falling: the variables, the sums and the numbers of different values of the lists.
 pub struct Marks {
     pub variables: [bool; 8],

@@ -1,11 +1,11 @@
 -- What the code makes of a guard's bytes, well formed or not: a twin of each definition on byte lists.
-use Prim.Native.Nat.{ℕ, zero, suc, _+_, _-_, min}
+use Prim.Native.Nat.{ℕ, zero, suc, _+_, _-_, _*_, min}
 use mathlib.Core.Bool.{Bool, true, false, not, _&&_, _||_, cond}
-use mathlib.Core.List.{List}
+use mathlib.Core.List.{List, _++_}
 use lib.ListN.{length, getD, drop}
 use lib.Dec.{ltb, leb, eqb}
+use Rattle.base.specs.Lists.{pad}
 use Rattle.base.specs.Value.{valueAt}
-use Rattle.guard_code.specs.declared.Evaluated.{Evaluated}
 use Rattle.guard_code.specs.declared.Judged.{Judged}
 use Rattle.guard_code.specs.declared.Marks.{Marks}
 use Rattle.base.specs.Mask.{bit}
@@ -28,30 +28,36 @@ applied c a b d =
     (cond (eqb c 0x2A) (bit (truth a || truth b))
     (cond (truth a) b d))))))))
 
--- the value of the command without operands at the front; tallies has the sums, the lengths and the numbers of different values of the 4 lists
+-- where among the leaves' values, 8 variables, then the sums, the lengths and the numbers of different values of the 4 lists, then the
+-- counters, a command without operands counts its operand from; a list is written 8 + v; 36 for any other byte
+abbrev pub leafFirst : ℕ → ℕ
+leafFirst c = cond (eqb c 0x22) 20 (cond (eqb c 0x21) 0 (cond (ltb c 0x2C) 36 (cond (ltb 0x2E c) 36 ((c - 0x2C) * 4))))
+
+-- the value of the command without operands at the front, over the leaves' values
+unfoldable pub leafIn : List ℕ → List ℕ → ℕ
+leafIn leaves part = cond (eqb (getD part 0 0) 0x20) (valueAt part 1) (getD leaves (leafFirst (getD part 0 0) + getD part 1 0) 0)
+
 unfoldable pub leafValue : List ℕ → List ℕ → List ℕ → List ℕ → ℕ
-leafValue values counters tallies part =
-    cond (eqb (getD part 0 0) 0x20) (valueAt part 1)
-    (cond (eqb (getD part 0 0) 0x21) (getD values (getD part 1 0) 0)
-    (cond (eqb (getD part 0 0) 0x22) (getD counters (getD part 1 0) 0)
-    (cond (eqb (getD part 0 0) 0x2C) (getD tallies (getD part 1 0 - 8) 0)
-    (cond (eqb (getD part 0 0) 0x2D) (getD tallies (getD part 1 0 - 4) 0)
-    (cond (eqb (getD part 0 0) 0x2E) (getD tallies (getD part 1 0) 0)
-    0)))))
+leafValue values counters tallies = leafIn (pad 8 0 values ++ (pad 12 0 tallies ++ counters))
 
 -- its bytes, as far as there are any
 abbrev pub leafWidth : ℕ → ℕ
-leafWidth c =
-    cond (eqb c 0x20) 5
-    (cond (eqb c 0x21) 2
-    (cond (eqb c 0x22) 2
-    (cond (eqb c 0x2C) 2
-    (cond (eqb c 0x2D) 2
-    (cond (eqb c 0x2E) 2
-    0)))))
+leafWidth c = cond (eqb c 0x20) 5 (cond (eqb (leafFirst c) 36) 0 2)
 
 unfoldable pub leafUsed : List ℕ → ℕ
 leafUsed part = min (leafWidth (getD part 0 0)) (length part)
+
+-- its bytes, where they are all there; else 0
+unfoldable pub leafWhole : List ℕ → ℕ
+leafWhole part = cond (leb (leafWidth (getD part 0 0)) (length part)) (leafWidth (getD part 0 0)) 0
+
+-- the value of an expression, and the bytes that it took; 0 and 0 where none stands
+pub record Evaluated : Type 0 where
+  pub value : ℕ
+  pub used : ℕ
+
+abbrev pub nothing : Evaluated
+nothing = record { value = 0; used = 0 }
 
 -- a command with its operands, each read by `read` where the one before it ends: the third, the second, the first
 abbrev pub evaluatedThird : List ℕ → Evaluated → Evaluated → Evaluated → Evaluated
@@ -67,13 +73,20 @@ evaluatedFirst read part a =
     cond (eqb (operandsOf (getD part 0 0)) 1) (record { value = applied (getD part 0 0) (a .value) 0 0; used = 1 + a .used })
     (evaluatedSecond read part a (read (drop (1 + a .used) part)))
 
--- the value of the expression at the front and the bytes it takes, with so many commands nested at most; `leaf` reads a command
--- without operands
+-- the command without operands at the front, where one stands there whole; else what is read otherwise
+unfoldable pub leafOr : (List ℕ → ℕ) → List ℕ → Evaluated → Evaluated
+leafOr leaf part other = cond (eqb (leafWhole part) 0) other (record { value = leaf part; used = leafWhole part })
+
+-- a command with operands at the front, with so many such commands nested at most; `leaf` reads a command without operands
+unfoldable pub compound : ℕ → (List ℕ → ℕ) → List ℕ → Evaluated
+compound zero leaf part = nothing
+compound (suc n) leaf part =
+    cond (eqb (operandsOf (getD part 0 0)) 0) nothing
+    (evaluatedFirst (λ l. leafOr leaf l (compound n leaf l)) part (leafOr leaf (drop 1 part) (compound n leaf (drop 1 part))))
+
+-- the value of the expression at the front and the bytes it takes
 unfoldable pub evaluated : ℕ → (List ℕ → ℕ) → List ℕ → Evaluated
-evaluated zero leaf part = record { value = 0; used = 0 }
-evaluated (suc n) leaf part =
-    cond (eqb (operandsOf (getD part 0 0)) 0) (record { value = leaf part; used = leafUsed part })
-    (evaluatedFirst (evaluated n leaf) part (evaluated n leaf (drop 1 part)))
+evaluated n leaf part = leafOr leaf part (compound n leaf part)
 
 -- the guard at an offset is nonzero; where no GUARD stands, true
 unfoldable pub guardAt : (List ℕ → ℕ) → List ℕ → ℕ → Bool

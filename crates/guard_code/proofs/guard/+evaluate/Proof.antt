@@ -1,12 +1,13 @@
--- `guard::evaluate` meets its contract: a command, then its operands, each lent as the part behind the one before. The measure is the
--- depth.
-use Rattle.guard_code.proofs.GuardOnBytes.{Scene, byte-there, deeper, fits, Evaluation, First, Second, first-inside, second-inside, third-inside}
-use Rattle.guard_code.proofs.GuardOnBytes.{read-none, read-leaf, read-one, read-two, read-three}
-use Rattle.guard_code.specs.inner.Bytes.{leafValue}
+-- `guard::evaluate` meets its contract: a command, then its operands, each behind the one before. The measure is the depth.
+use Rattle.guard_code.proofs.Packing.{least, read-none, read-other, Command, First, Second, Third, by-leaf, by-operands, shallower}
+use Rattle.guard_code.proofs.Packing.{first-room, second-room, third-room, last-room, read-one, read-two, read-three}
+use Rattle.guard_code.specs.inner.Bytes.{leafIn}
+use mathlib.Core.Logic.{⊎-elim}
+use mathlib.Core.Path.{_∙_}
 use denote.Ref.{now}
 use native.Mathlib.Omega.{arith}
 use borrow.Author.Needs.{needs}
-use Prim.Native.Nat.{ℕ, _<_}
+use Prim.Native.Nat.{ℕ, _-_, _<_}
 use borrow.Fn.Kinds.{In}
 use borrow.Fn.PlainCycle.{Measures, is, falls, and}
 use Rattle.guard_code.proofs.guard.evaluate.Reads as evaluate
@@ -14,82 +15,103 @@ use Rattle.guard_code.proofs.guard.evaluate.Kinds as evaluate-kinds
 use Rattle.guard_code.proofs.guard.+evaluate.Lts-evaluate as evaluate-lts
 use Rattle.base.proofs.byte_at.Reads as byte-at-reads
 use Rattle.guard_code.proofs.guard.apply.Reads as apply-reads
-use Rattle.guard_code.proofs.guard.leaf_used.Reads as leaf-used-reads
-use Rattle.guard_code.proofs.guard.leaf_value.Reads as leaf-value-reads
+use Rattle.guard_code.proofs.guard.leaf.Reads as leaf-reads
+use Rattle.guard_code.proofs.guard.next_in.Reads as next-in-reads
 use Rattle.guard_code.proofs.guard.operand_count.Reads as operand-count-reads
+use Rattle.guard_code.proofs.guard.pack.Reads as pack-reads
+use Rattle.guard_code.proofs.guard.value_in.Reads as value-in-reads
 use Rattle.guard_code.proofs.guard.+evaluate.{statement}
 use Rattle.guard_code.proofs.guard.+evaluate.Tie.{close}
 
-abbrev μ-evaluate : Measures 4 evaluate-kinds.ps ℕ
-μ-evaluate κs a = a .1 .1 .1 .1 .0
+abbrev μ-evaluate : Measures 2 evaluate-kinds.ps ℕ
+μ-evaluate κs a = a .1 .1 .1 .0
 
-abbrev evaluate-at : ℕ → In 4 evaluate-kinds.ps
-evaluate-at t = and 4 evaluate-kinds.ps (is 4 evaluate-kinds.ps μ-evaluate t) evaluate.Pre
+abbrev evaluate-at : ℕ → In 2 evaluate-kinds.ps
+evaluate-at t = and 2 evaluate-kinds.ps (is 2 evaluate-kinds.ps μ-evaluate t) evaluate.Pre
 
-abbrev evaluate-below : ℕ → In 4 evaluate-kinds.ps
+abbrev evaluate-below : ℕ → In 2 evaluate-kinds.ps
 evaluate-below t =
-    and 4 evaluate-kinds.ps (falls 4 evaluate-kinds.ps _<_ μ-evaluate t) evaluate.Pre
+    and 2 evaluate-kinds.ps (falls 2 evaluate-kinds.ps _<_ μ-evaluate t) evaluate.Pre
 
 -- what is known of the functions that it calls
 abbrev evaluate-callees : ℕ → evaluate-lts.Claims
 evaluate-callees t = (
+  pack-reads.Asked,
+  pack-reads.Learnt,
   byte-at-reads.Asked,
   byte-at-reads.Learnt,
   operand-count-reads.Asked,
   operand-count-reads.Learnt,
-  leaf-value-reads.Asked,
-  leaf-value-reads.Learnt,
-  leaf-used-reads.Asked,
-  leaf-used-reads.Learnt,
+  leaf-reads.Asked,
+  leaf-reads.Learnt,
   evaluate-below t,
   evaluate.Post,
+  next-in-reads.Asked,
+  next-in-reads.Learnt,
+  value-in-reads.Asked,
+  value-in-reads.Learnt,
   apply-reads.Asked,
   apply-reads.Learnt,
 )
 
 -- what is known of a command with operands, and of the operands read so far
-abbrev evaluate-evaluation : (t : ℕ) → evaluate-lts.Else2 (evaluate-callees t) (evaluate-at t) evaluate.Post → Evaluation
-evaluate-evaluation t c =
-    let c8 = c .before .before .before .before .before .before .before .before in
-    let a = c8 .args in
+evaluate-command : (t : ℕ) (c : evaluate-lts.Else2 (evaluate-callees t) (evaluate-at t) evaluate.Post)
+    → let a = c .before .before .before .before .before .args in Command (a .depth) (a .at) (now (a .part)) (c .before .before .byte-at .result)
+evaluate-command t c =
+    let b = c .before .before in
     record {
-      depth = a .depth;
-      leaf = leafValue (now (a .values)) (now (a .counters)) (now (a .tallies));
-      part = now (a .part);
-      o = c .before .before .byte-at .result;
-      n = c .before .operand-count .result;
+      deep = b .before .if1 .left;
+      room = b .before .before .before .pre .1 .0;
+      byte = b .byte-at .ensures .0;
+      some = λ e. c .if2 .left (c .before .operand-count .ensures ∙ e);
     }
 
-evaluate-scene : (t : ℕ) (c : evaluate-lts.Else2 (evaluate-callees t) (evaluate-at t) evaluate.Post)
-    → let x = evaluate-evaluation t c in Scene (x .depth) (x .part) (x .o) (x .n)
-evaluate-scene t c =
-    let c3 = c .before .before .before in
-    let c8 = c3 .before .before .before .before .before in
+evaluate-first : (t : ℕ) (c : evaluate-lts.Joined3 (evaluate-callees t) (evaluate-at t) evaluate.Post)
+    → let b = c .before .before .before .before in
+    let a = b .before .before .before .args in
+    First (a .depth) (a .at) (leafIn (now (a .leaves))) (now (a .part)) (b .byte-at .result) (c .if3 .a)
+evaluate-first t c =
     record {
-      deep = c3 .if1 .left;
-      command = c .before .before .byte-at .ensures .0;
-      count = c .before .operand-count .ensures;
-      some = c .if2 .left;
-      countable = omega (arith, c8 .good .0);
+      command = evaluate-command t (c .before .before);
+      first = ⊎-elim (λ w. by-operands (c .before .leaf .ensures) _ (w .0 .taken) (w .1 .ensures) (w .2)) (λ w. by-leaf (c .before .leaf .ensures) _ (w .0 .left) (w .1))
+          (c .if3 .came);
     }
 
-evaluate-first : (t : ℕ) (c : evaluate-lts.After-evaluate (evaluate-callees t) (evaluate-at t) evaluate.Post)
-    → First (evaluate-evaluation t (c .before .before)) (c .evaluate .result)
-evaluate-first t c = record { scene = evaluate-scene t (c .before .before); first = c .evaluate .ensures }
-
-evaluate-second : (t : ℕ) (c : evaluate-lts.After-evaluate2 (evaluate-callees t) (evaluate-at t) evaluate.Post)
-    → let d = c .before .before .before .before in
-    Second (evaluate-evaluation t (d .before .before)) (d .evaluate .result) (c .evaluate2 .result)
+evaluate-second : (t : ℕ) (c : evaluate-lts.Joined5 (evaluate-callees t) (evaluate-at t) evaluate.Post)
+    → let n = c .before .before .before in
+    let b = n .before .before .before .before .before in
+    let a = b .before .before .before .args in
+    Second (a .depth) (a .at) (leafIn (now (a .leaves))) (now (a .part)) (b .byte-at .result) (n .before .if3 .a) (n .next-in .result) (c .if5 .b)
 evaluate-second t c =
-    let c4 = c .before .before .before .before in
+    let n = c .before .before .before in
     record {
-      before = evaluate-first t (c4);
-      more = c .before .before .if3 .left;
-      second = c .evaluate2 .ensures;
+      before = evaluate-first t (n .before);
+      place = n .next-in .ensures;
+      second = ⊎-elim (λ w. by-operands (c .before .leaf2 .ensures) _ (w .0 .taken) (w .1 .ensures) (w .2)) (λ w. by-leaf (c .before .leaf2 .ensures) _ (w .0 .left) (w .1))
+          (c .if5 .came);
     }
+
+evaluate-third : (t : ℕ) (c : evaluate-lts.Joined7 (evaluate-callees t) (evaluate-at t) evaluate.Post)
+    → let m = c .before .before .before in
+    let n = m .before .before .before .before in
+    let b = n .before .before .before .before .before in
+    let a = b .before .before .before .args in
+    Third (a .depth) (a .at) (leafIn (now (a .leaves))) (now (a .part)) (b .byte-at .result) (n .before .if3 .a) (n .next-in .result) (m .before .if5 .b)
+    (m .next-in2 .result) (c .if7 .d)
+evaluate-third t c =
+    let m = c .before .before .before in
+    record {
+      before = evaluate-second t (m .before);
+      place = m .next-in2 .ensures;
+      third = ⊎-elim (λ w. by-operands (c .before .leaf3 .ensures) _ (w .0 .taken) (w .1 .ensures) (w .2)) (λ w. by-leaf (c .before .leaf3 .ensures) _ (w .0 .left) (w .1))
+          (c .if7 .came);
+    }
+
+evaluate-pack-requires : (t : ℕ) → evaluate-lts.Need-pack-requires (evaluate-callees t) (evaluate-at t) evaluate.Post
+evaluate-pack-requires t c κs = omega (arith, c .before .before .pre .1 .0)
 
 evaluate-returns : (t : ℕ) → evaluate-lts.Need-returns (evaluate-callees t) (evaluate-at t) evaluate.Post
-evaluate-returns t c = read-none _ _ _ (c .if1 .taken)
+evaluate-returns t c = read-none _ _ _ (c .before .if1 .taken) (c .pack .ensures)
 
 evaluate-byte-at-requires : (t : ℕ) → evaluate-lts.Need-byte-at-requires (evaluate-callees t) (evaluate-at t) evaluate.Post
 evaluate-byte-at-requires t c κs = search needs
@@ -97,131 +119,168 @@ evaluate-byte-at-requires t c κs = search needs
 evaluate-operand-count-requires : (t : ℕ) → evaluate-lts.Need-operand-count-requires (evaluate-callees t) (evaluate-at t) evaluate.Post
 evaluate-operand-count-requires t c κs = search needs
 
-evaluate-leaf-value-requires : (t : ℕ) → evaluate-lts.Need-leaf-value-requires (evaluate-callees t) (evaluate-at t) evaluate.Post
-evaluate-leaf-value-requires t c κs = search needs
-
-evaluate-leaf-used-requires : (t : ℕ) → evaluate-lts.Need-leaf-used-requires (evaluate-callees t) (evaluate-at t) evaluate.Post
-evaluate-leaf-used-requires t c κs = search needs
+evaluate-pack-requires-2 : (t : ℕ) → evaluate-lts.Need-pack-requires-2 (evaluate-callees t) (evaluate-at t) evaluate.Post
+evaluate-pack-requires-2 t c κs = omega (arith, c .before .before .before .before .before .pre .1 .0)
 
 evaluate-returns-2 : (t : ℕ) → evaluate-lts.Need-returns-2 (evaluate-callees t) (evaluate-at t) evaluate.Post
 evaluate-returns-2 t c =
-    let c3 = c .before .before .before in
-    let d = c3 in
-    let e = d .before in
-    read-leaf _ _ _ (e .before .if1 .left) (e .byte-at .ensures .0) (d .operand-count .ensures) (c .before .before .if2 .taken)
-    (c .before .leaf-value .ensures) (c .leaf-used .ensures)
+    let n = c .before .before in
+    let b = n .before in
+    read-other _ _ (now (b .before .before .before .args .part)) (b .before .if1 .left) (b .byte-at .ensures .0) (n .operand-count .ensures) (c .before .if2 .taken)
+    (c .pack2 .ensures)
 
 evaluate-sub-inner : (t : ℕ) → evaluate-lts.Need-sub-inner (evaluate-callees t) (evaluate-at t) evaluate.Post
 evaluate-sub-inner t c = search needs
 
-evaluate-sub-evaluate : (t : ℕ) → evaluate-lts.Need-sub-evaluate (evaluate-callees t) (evaluate-at t) evaluate.Post
-evaluate-sub-evaluate t c = byte-there (evaluate-scene t c)
+evaluate-add-first : (t : ℕ) → evaluate-lts.Need-add-first (evaluate-callees t) (evaluate-at t) evaluate.Post
+evaluate-add-first t c = omega (arith, first-room (evaluate-command t c))
 
-evaluate-part-evaluate-start : (t : ℕ) → evaluate-lts.Need-part-evaluate-start (evaluate-callees t) (evaluate-at t) evaluate.Post
-evaluate-part-evaluate-start t c = byte-there (evaluate-scene t c)
-
-evaluate-part-evaluate-end : (t : ℕ) → evaluate-lts.Need-part-evaluate-end (evaluate-callees t) (evaluate-at t) evaluate.Post
-evaluate-part-evaluate-end t c = search needs
+evaluate-leaf-requires : (t : ℕ) → evaluate-lts.Need-leaf-requires (evaluate-callees t) (evaluate-at t) evaluate.Post
+evaluate-leaf-requires t c κs =
+    let s = c .before .before .before .before .before in
+    (omega (arith, first-room (evaluate-command t c), least (s .args .depth - 1)), s .pre .1 .1)
 
 evaluate-evaluate-requires : (t : ℕ) → evaluate-lts.Need-evaluate-requires (evaluate-callees t) (evaluate-at t) evaluate.Post
 evaluate-evaluate-requires t c κs =
-    let d = c .before in (deeper (evaluate-scene t d) t (d .before .before .before .before .before .before .before .before .pre .0), tt)
+    let d = evaluate-command t (c .before .before) in
+    let s = c .before .before .before .before .before .before .before in
+    (shallower d t (s .pre .0), (first-room d, s .pre .1 .1))
 
-evaluate-add-second : (t : ℕ) → evaluate-lts.Need-add-second (evaluate-callees t) (evaluate-at t) evaluate.Post
-evaluate-add-second t c = let p = evaluate-first t (c .before) in omega (arith, fits (p .scene) _ (first-inside p))
+evaluate-next-in-requires : (t : ℕ) → evaluate-lts.Need-next-in-requires (evaluate-callees t) (evaluate-at t) evaluate.Post
+evaluate-next-in-requires t c κs = search needs
+
+evaluate-value-in-requires : (t : ℕ) → evaluate-lts.Need-value-in-requires (evaluate-callees t) (evaluate-at t) evaluate.Post
+evaluate-value-in-requires t c κs = search needs
 
 evaluate-apply-requires : (t : ℕ) → evaluate-lts.Need-apply-requires (evaluate-callees t) (evaluate-at t) evaluate.Post
 evaluate-apply-requires t c κs = search needs
 
+evaluate-pack-requires-3 : (t : ℕ) → evaluate-lts.Need-pack-requires-3 (evaluate-callees t) (evaluate-at t) evaluate.Post
+evaluate-pack-requires-3 t c κs =
+    let n = c .before .before .before in
+    omega (arith, second-room (evaluate-first t (n .before)) (n .next-in .ensures))
+
 evaluate-returns-3 : (t : ℕ) → evaluate-lts.Need-returns-3 (evaluate-callees t) (evaluate-at t) evaluate.Post
 evaluate-returns-3 t c =
-    let c3 = c .before .before .before in
-    read-one (evaluate-first t (c3)) (c .before .if3 .taken) (c .apply .ensures)
+    let v = c .before .before in
+    let n = v .before .before in
+    read-one (evaluate-first t (n .before)) (n .next-in .ensures) (v .before .if4 .taken) (v .value-in .ensures) (c .before .apply .ensures) (c .pack3 .ensures)
 
-evaluate-sub-evaluate-2 : (t : ℕ) → evaluate-lts.Need-sub-evaluate-2 (evaluate-callees t) (evaluate-at t) evaluate.Post
-evaluate-sub-evaluate-2 t c = first-inside (evaluate-first t (c .before .before))
-
-evaluate-part-evaluate-start-2 : (t : ℕ) → evaluate-lts.Need-part-evaluate-start-2 (evaluate-callees t) (evaluate-at t) evaluate.Post
-evaluate-part-evaluate-start-2 t c = first-inside (evaluate-first t (c .before .before))
-
-evaluate-part-evaluate-end-2 : (t : ℕ) → evaluate-lts.Need-part-evaluate-end-2 (evaluate-callees t) (evaluate-at t) evaluate.Post
-evaluate-part-evaluate-end-2 t c = search needs
+evaluate-leaf-requires-2 : (t : ℕ) → evaluate-lts.Need-leaf-requires-2 (evaluate-callees t) (evaluate-at t) evaluate.Post
+evaluate-leaf-requires-2 t c κs =
+    let n = c .before in
+    let s = n .before .before .before .before .before .before .before .before in
+    (omega (arith, second-room (evaluate-first t (n .before)) (n .next-in .ensures), least (s .args .depth - 1)), s .pre .1 .1)
 
 evaluate-evaluate-requires-2 : (t : ℕ) → evaluate-lts.Need-evaluate-requires-2 (evaluate-callees t) (evaluate-at t) evaluate.Post
 evaluate-evaluate-requires-2 t c κs =
-    let c5 = c .before .before .before .before .before in
-    let c5 = c5 in
-    let d = c5 in (deeper (evaluate-scene t d) t (d .before .before .before .before .before .before .before .before .pre .0), tt)
+    let n = c .before .before .before in
+    let p = evaluate-first t (n .before) in
+    let s = n .before .before .before .before .before .before .before .before in
+    (shallower (p .command) t (s .pre .0), (second-room p (n .next-in .ensures), s .pre .1 .1))
 
-evaluate-add-third : (t : ℕ) → evaluate-lts.Need-add-third (evaluate-callees t) (evaluate-at t) evaluate.Post
-evaluate-add-third t c = let p = evaluate-second t (c .before) in omega (arith, fits (p .before .scene) _ (second-inside p))
+evaluate-next-in-requires-2 : (t : ℕ) → evaluate-lts.Need-next-in-requires-2 (evaluate-callees t) (evaluate-at t) evaluate.Post
+evaluate-next-in-requires-2 t c κs = search needs
+
+evaluate-leaf-requires-3 : (t : ℕ) → evaluate-lts.Need-leaf-requires-3 (evaluate-callees t) (evaluate-at t) evaluate.Post
+evaluate-leaf-requires-3 t c κs =
+    let m = c .before in
+    let s = m .before .before .before .before .before .before .before .before .before .before .before .before in
+    (omega (arith, third-room (evaluate-second t (m .before)) (m .next-in2 .ensures), least (s .args .depth - 1)), s .pre .1 .1)
+
+evaluate-evaluate-requires-3 : (t : ℕ) → evaluate-lts.Need-evaluate-requires-3 (evaluate-callees t) (evaluate-at t) evaluate.Post
+evaluate-evaluate-requires-3 t c κs =
+    let m = c .before .before .before in
+    let p = evaluate-second t (m .before) in
+    let s = m .before .before .before .before .before .before .before .before .before .before .before .before in
+    (shallower (p .before .command) t (s .pre .0), (third-room p (m .next-in2 .ensures), s .pre .1 .1))
+
+evaluate-value-in-requires-2 : (t : ℕ) → evaluate-lts.Need-value-in-requires-2 (evaluate-callees t) (evaluate-at t) evaluate.Post
+evaluate-value-in-requires-2 t c κs = search needs
+
+evaluate-value-in-requires-3 : (t : ℕ) → evaluate-lts.Need-value-in-requires-3 (evaluate-callees t) (evaluate-at t) evaluate.Post
+evaluate-value-in-requires-3 t c κs = search needs
+
+evaluate-value-in-requires-4 : (t : ℕ) → evaluate-lts.Need-value-in-requires-4 (evaluate-callees t) (evaluate-at t) evaluate.Post
+evaluate-value-in-requires-4 t c κs = search needs
 
 evaluate-apply-requires-2 : (t : ℕ) → evaluate-lts.Need-apply-requires-2 (evaluate-callees t) (evaluate-at t) evaluate.Post
 evaluate-apply-requires-2 t c κs = search needs
 
+evaluate-next-in-requires-3 : (t : ℕ) → evaluate-lts.Need-next-in-requires-3 (evaluate-callees t) (evaluate-at t) evaluate.Post
+evaluate-next-in-requires-3 t c κs = search needs
+
+evaluate-pack-requires-4 : (t : ℕ) → evaluate-lts.Need-pack-requires-4 (evaluate-callees t) (evaluate-at t) evaluate.Post
+evaluate-pack-requires-4 t c κs =
+    let j = c .before .before .before .before .before in
+    omega (arith, last-room (evaluate-third t j) (c .next-in3 .ensures))
+
 evaluate-returns-4 : (t : ℕ) → evaluate-lts.Need-returns-4 (evaluate-callees t) (evaluate-at t) evaluate.Post
 evaluate-returns-4 t c =
-    let c3 = c .before .before .before in
-    read-two (evaluate-second t (c3)) (c .before .if4 .taken) (c .apply2 .ensures)
+    let n = c .before in
+    let y = n .before .before in
+    let x = y .before in
+    let w = x .before in
+    let j = w .before in
+    read-three (evaluate-third t j) (n .next-in3 .ensures) (j .before .before .if6 .taken) (w .value-in2 .ensures) (x .value-in3 .ensures) (y .value-in4 .ensures)
+    (n .before .apply2 .ensures) (c .pack4 .ensures)
 
-evaluate-sub-evaluate-3 : (t : ℕ) → evaluate-lts.Need-sub-evaluate-3 (evaluate-callees t) (evaluate-at t) evaluate.Post
-evaluate-sub-evaluate-3 t c = second-inside (evaluate-second t (c .before .before))
+evaluate-value-in-requires-5 : (t : ℕ) → evaluate-lts.Need-value-in-requires-5 (evaluate-callees t) (evaluate-at t) evaluate.Post
+evaluate-value-in-requires-5 t c κs = search needs
 
-evaluate-part-evaluate-start-3 : (t : ℕ) → evaluate-lts.Need-part-evaluate-start-3 (evaluate-callees t) (evaluate-at t) evaluate.Post
-evaluate-part-evaluate-start-3 t c = second-inside (evaluate-second t (c .before .before))
-
-evaluate-part-evaluate-end-3 : (t : ℕ) → evaluate-lts.Need-part-evaluate-end-3 (evaluate-callees t) (evaluate-at t) evaluate.Post
-evaluate-part-evaluate-end-3 t c = search needs
-
-evaluate-evaluate-requires-3 : (t : ℕ) → evaluate-lts.Need-evaluate-requires-3 (evaluate-callees t) (evaluate-at t) evaluate.Post
-evaluate-evaluate-requires-3 t c κs =
-    let c9 = c .before .before .before .before .before .before .before .before .before in
-    let c9 = c9 in
-    let d = c9 in (deeper (evaluate-scene t d) t (d .before .before .before .before .before .before .before .before .pre .0), tt)
+evaluate-value-in-requires-6 : (t : ℕ) → evaluate-lts.Need-value-in-requires-6 (evaluate-callees t) (evaluate-at t) evaluate.Post
+evaluate-value-in-requires-6 t c κs = search needs
 
 evaluate-apply-requires-3 : (t : ℕ) → evaluate-lts.Need-apply-requires-3 (evaluate-callees t) (evaluate-at t) evaluate.Post
 evaluate-apply-requires-3 t c κs = search needs
 
-evaluate-add-used : (t : ℕ) → evaluate-lts.Need-add-used (evaluate-callees t) (evaluate-at t) evaluate.Post
-evaluate-add-used t c = let d = c .before .before in
-    let p = evaluate-second t (d .before .before .before .before) in
-    omega (arith, fits (p .before .scene) _ (third-inside p (d .evaluate3 .ensures)))
+evaluate-pack-requires-5 : (t : ℕ) → evaluate-lts.Need-pack-requires-5 (evaluate-callees t) (evaluate-at t) evaluate.Post
+evaluate-pack-requires-5 t c κs =
+    let m = c .before .before .before .before in
+    omega (arith, third-room (evaluate-second t (m .before)) (m .next-in2 .ensures))
 
 evaluate-returns-5 : (t : ℕ) → evaluate-lts.Need-returns-5 (evaluate-callees t) (evaluate-at t) evaluate.Post
 evaluate-returns-5 t c =
-    let d = c .before .before in
-    let e = d .before .before in
-    read-three (evaluate-second t (e .before .before)) (e .if4 .left) (d .evaluate3 .ensures) (c .before .apply3 .ensures)
+    let y = c .before .before in
+    let x = y .before in
+    let m = x .before .before in
+    let e = m .before .before .before in
+    read-two (evaluate-second t (m .before)) (m .next-in2 .ensures) (e .if4 .left) (x .before .if6 .left) (x .value-in5 .ensures) (y .value-in6 .ensures)
+    (c .before .apply3 .ensures) (c .pack5 .ensures)
 
 pub +evaluate-spec : {M : Type 1} → statement M
 +evaluate-spec = close μ-evaluate λ t. evaluate-lts.spec (evaluate-callees t)
     (evaluate-at t)
     evaluate.Post
+    (evaluate-pack-requires t)
     (evaluate-returns t)
     (evaluate-byte-at-requires t)
     (evaluate-operand-count-requires t)
-    (evaluate-leaf-value-requires t)
-    (evaluate-leaf-used-requires t)
+    (evaluate-pack-requires-2 t)
     (evaluate-returns-2 t)
     (evaluate-sub-inner t)
-    (evaluate-sub-evaluate t)
-    (evaluate-part-evaluate-start t)
-    (evaluate-part-evaluate-end t)
+    (evaluate-add-first t)
+    (evaluate-leaf-requires t)
     (evaluate-evaluate-requires t)
-    (evaluate-add-second t)
+    (evaluate-next-in-requires t)
+    (evaluate-value-in-requires t)
     (evaluate-apply-requires t)
+    (evaluate-pack-requires-3 t)
     (evaluate-returns-3 t)
-    (evaluate-sub-evaluate-2 t)
-    (evaluate-part-evaluate-start-2 t)
-    (evaluate-part-evaluate-end-2 t)
+    (evaluate-leaf-requires-2 t)
     (evaluate-evaluate-requires-2 t)
-    (evaluate-add-third t)
-    (evaluate-apply-requires-2 t)
-    (evaluate-returns-4 t)
-    (evaluate-sub-evaluate-3 t)
-    (evaluate-part-evaluate-start-3 t)
-    (evaluate-part-evaluate-end-3 t)
+    (evaluate-next-in-requires-2 t)
+    (evaluate-leaf-requires-3 t)
     (evaluate-evaluate-requires-3 t)
+    (evaluate-value-in-requires-2 t)
+    (evaluate-value-in-requires-3 t)
+    (evaluate-value-in-requires-4 t)
+    (evaluate-apply-requires-2 t)
+    (evaluate-next-in-requires-3 t)
+    (evaluate-pack-requires-4 t)
+    (evaluate-returns-4 t)
+    (evaluate-value-in-requires-5 t)
+    (evaluate-value-in-requires-6 t)
     (evaluate-apply-requires-3 t)
-    (evaluate-add-used t)
+    (evaluate-pack-requires-5 t)
     (evaluate-returns-5 t)

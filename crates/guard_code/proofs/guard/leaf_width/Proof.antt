@@ -1,36 +1,20 @@
 -- `guard::leaf_width` meets its contract: by the command byte.
 use borrow.Author.Tests.{ne-eqb}
+use borrow.Author.Needs.{needs}
 use Rattle.guard_code.proofs.guard.leaf_width.Statement.{statement}
 use Rattle.guard_code.proofs.guard.leaf_width.Tie as tie
 
 returns : tie.Need-returns
-returns c = rw (c .match .keys1)
+returns c = rw (c .if1 .taken)
+
+first-of-requires : tie.Need-first-of-requires
+first-of-requires c κs = search needs
 
 returns-2 : tie.Need-returns-2
-returns-2 c = rw (c .match .keys2)
+returns-2 c = rw (ne-eqb _ 0x20 (c .before .before .if1 .left), ← c .before .first-of .ensures, c .if2 .taken)
 
 returns-3 : tie.Need-returns-3
-returns-3 c = rw (c .match .keys3)
-
-returns-4 : tie.Need-returns-4
-returns-4 c = rw (c .match .keys4)
-
-returns-5 : tie.Need-returns-5
-returns-5 c = rw (c .match .keys5)
-
-returns-6 : tie.Need-returns-6
-returns-6 c = rw (c .match .keys6)
-
-returns-7 : tie.Need-returns-7
-returns-7 c = let k = c .match .rest in
-    rw (
-      ne-eqb _ _ (k .0 .0 .0 .0 .0 .1),
-      ne-eqb _ _ (k .0 .0 .0 .0 .1),
-      ne-eqb _ _ (k .0 .0 .0 .1),
-      ne-eqb _ _ (k .0 .0 .1),
-      ne-eqb _ _ (k .0 .1),
-      ne-eqb _ _ (k .1),
-    )
+returns-3 c = rw (ne-eqb _ 0x20 (c .before .before .if1 .left), ← c .before .first-of .ensures, ne-eqb _ 36 (c .if2 .left))
 
 pub leaf-width-spec : {M : Type 1} → statement M
-leaf-width-spec = tie.close (tie.spec returns returns-2 returns-3 returns-4 returns-5 returns-6 returns-7)
+leaf-width-spec = tie.close (tie.spec returns first-of-requires returns-2 returns-3)
