@@ -1,4 +1,5 @@
--- What an event alone says of a step: a clause that fails keeps the walk from passing, and one past due stays past due, whatever follows.
+-- What an event says of a step, alone or with the values held before it: a clause that fails keeps the walk from passing, and one past due stays
+-- past due, whatever follows.
 use Prim.Native.Nat.{ℕ, zero, suc, _+_, _≤_}
 use mathlib.Core.Path.{_≡_, refl, ap, sym, subst, _∙_}
 use mathlib.Core.Bool.{Bool, true, false, cond, not, _&&_, _||_, true≢false}
@@ -6,6 +7,7 @@ use mathlib.Core.List.{List}
 use native.Mathlib.Omega.{arith}
 use borrow.Author.Tests.{ne-eqb, eqb-true, eqb-false, ltb-true, ltb-false, not-true}
 use lib.ListN.{length, getD, replicate}
+use lib.Seq.{getD-set-other}
 use lib.Dec.{eqb, ltb, leb}
 use Rattle.base.specs.Value.{valueAt}
 use Rattle.event_log.specs.Log.{Values, present, field}
@@ -18,7 +20,7 @@ use Rattle.machine_code.specs.inner.Bytes.{holdsBy, missedBy, isClause, 
 use Rattle.machine_code.specs.inner.Bytes.{walked, fired, lapsed}
 use Rattle.base.proofs.Tests.{and-false, or-right}
 use Rattle.runs.proofs.Moves.{and-both}
-use Rattle.machine_code.specs.inner.Marks.{failsAt, missesAt, Reaches, begins, onward}
+use Rattle.machine_code.specs.inner.Marks.{failsAt, missesAt, deniesAt, Reaches, begins, onward}
 use Rattle.machine_code.proofs.ClausesOnBytes.{either, clause-gather, clause-in, clause-low, clause-high, Walking, walking-start, walking-more}
 
 and-fails : (a b : Bool) → a ≡ false → (a && b) ≡ false
@@ -94,7 +96,7 @@ module _ (f prior : List ℕ) (rises : List Bool) (event : Values) where
   walk-due = walk-keeps Late (clause-keeps Late met-due test-due note-due bind-due f prior rises event)
 
 -- a clause's command, and where the walk stands behind it
-width-clause : (c : ℕ) → (widthOf c ≡ 0 → ⊥) → isClause c ≡ true
+pub width-clause : (c : ℕ) → (widthOf c ≡ 0 → ⊥) → isClause c ≡ true
 unfolding widthOf
 width-clause c n = go (eqb c 0x12) (eqb c 0x13) (eqb c 0x17) (eqb c 0x14) refl refl refl refl
   where
@@ -192,58 +194,131 @@ module _ (f prior : List ℕ) (rises : List Bool) (event : Values) (w : Walked) 
       let p = and-both (eqb (getD f (w .at) 0) 0x12) _ h in
       rw (p .0) (or-right (w .due) _ (p .1))
 
--- the walk of a configuration at a place
-pub record Standing (f : List ℕ) (event : Values) (at place : ℕ) (c : Configuration) (rises : List Bool) : Type 0 where
+-- a clause as the code reads it
+pub wide-there : (f : List ℕ) (place taken command : ℕ) → command ≡ getD f place 0 → taken ≡ widthOf command → (taken ≡ 0 → ⊥)
+    → widthOf (getD f place 0) ≡ 0 → ⊥
+wide-there f place taken command e₁ e₂ n = rw (← e₁, ← e₂) n
+
+-- what a configuration holds, the walk holds on, with its value
+abbrev pub Keeps : Configuration → Walked → Type 0
+Keeps c w = (v : ℕ) → getD (c .held) v false ≡ true → (getD (w .held) v false ≡ true) × (getD (w .values) v 0 ≡ getD (c .values) v 0)
+
+met-held : (c : Configuration) (w : Walked) (p : Bool) → Keeps c w → Keeps c (met w p)
+unfolding met
+met-held c w p h = h
+
+test-held : (c : Configuration) (w : Walked) (next o x y : ℕ) (r : Bool) → Keeps c w → Keeps c (tested w next o x y r)
+unfolding tested
+test-held c w next o x y r h = h
+
+note-held : (c : Configuration) (w : Walked) (next : ℕ) → Keeps c w → Keeps c (noted w next)
+unfolding noted
+note-held c w next h = h
+
+bind-held : (c : Configuration) (w : Walked) (next v x : ℕ) (r b : Bool) → getD (w .held) v false ≡ b → Keeps c w → Keeps c (bound w next v x r)
+unfolding bound holding
+bind-held c w next v x r true e h u k = rw e (h u k)
+bind-held c w next v x r false e h u k =
+    let p = h u k in
+    let ne : u ≡ v → ⊥ = λ q. true≢false (sym (p .0) ∙ ap (λ i. getD (w .held) i false) q ∙ e) in
+    rw (e, getD-set-other (w .held) v u true false ne, getD-set-other (w .values) v u x 0 ne) p
+
+clause-held : (c : Configuration) (f : List ℕ) (rises : List Bool) (event : Values) (w : Walked) → Keeps c w → Keeps c (clauseAt f (c .values) rises event w)
+clause-held c f =
+    clause-keeps (Keeps c) (met-held c) (test-held c) (note-held c) (λ w next v x r. bind-held c w next v x r (getD (w .held) v false) refl) f (c .values)
+
+-- a TESTV that is false, and a BIND of a variable held before the step to another value
+denies-here : (c : Configuration) (f : List ℕ) (rises : List Bool) (event : Values) (w : Walked) → Keeps c w
+    → deniesAt f (getD f (w .at) 0) (w .at) (c .held) (c .values) event ≡ true → (clauseAt f (c .values) rises event w) .passes ≡ false
+unfolding clauseAt clauseOn met tested bound holding deniesAt
+denies-here c f rises event w k h = go (eqb (getD f (w .at) 0) 0x13) refl h
+  where
+    go : (b : Bool) → eqb (getD f (w .at) 0) 0x13 ≡ b
+        → cond b (not (holdsBy (getD f (w .at + 2) 0) (field event (getD f (w .at + 1) 0)) (getD (c .values) (getD f (w .at + 3) 0) 0)))
+        (eqb (getD f (w .at) 0) 0x14 && (getD (c .held) (getD f (w .at + 2) 0) false && not (eqb (field event (getD f (w .at + 1) 0)) (getD (c .values) (getD f (w .at + 2) 0) 0))))
+        ≡ true
+        → (clauseAt f (c .values) rises event w) .passes ≡ false
+    go true e q = rw (eqb-true (getD f (w .at) 0) 0x13 e) (and-false (w .passes && present event (getD f (w .at + 1) 0)) _ (not-true _ q))
+    go false e q =
+        let p = and-both (eqb (getD f (w .at) 0) 0x14) _ q in
+        let v = getD f (w .at + 2) 0 in
+        let o = and-both (getD (c .held) v false) _ (p .1) in
+        let t = k v (o .0) in
+        rw (eqb-true (getD f (w .at) 0) 0x14 (p .0), t .0, t .1) (and-false (w .passes && present event (getD f (w .at + 1) 0)) _ (not-true _ (o .1)))
+
+-- the walk of a configuration at a place, with P
+pub record Standing (P : Walked → Type 0) (f : List ℕ) (event : Values) (at place : ℕ) (c : Configuration) (rises : List Bool) : Type 0 where
   pub w : Walked
   pub walking : Walking f (c .values) rises event (begun at c) w
   pub stands : w .at ≡ place
+  pub so : P w
 
+module _ (P : Walked → Type 0) (f : List ℕ) (event : Values) (at : ℕ) (c : Configuration) (rises : List Bool) where
+  pub stand-start : P (begun at c) → Standing P f event at (at + 2) c rises
+  unfolding begun
+  stand-start h = record { w = begun at c; walking = walking-start f (c .values) rises event (begun at c); stands = refl; so = h }
+
+  -- over the clause there
+  module _ (place : ℕ) (n : widthOf (getD f place 0) ≡ 0 → ⊥) (s : Standing P f event at place c rises) where
+    wide-here : widthOf (getD f (s .w .at) 0) ≡ 0 → ⊥
+    wide-here = rw (s .stands) n
+
+    over : Walking f (c .values) rises event (begun at c) (clauseAt f (c .values) rises event (s .w))
+    over = walking-more f (c .values) rises event (begun at c) (s .w) _ (s .walking) (width-clause (getD f (s .w .at) 0) wide-here) refl
+
+    pub stand-on : P (clauseAt f (c .values) rises event (s .w)) → Standing P f event at (place + widthOf (getD f place 0)) c rises
+    stand-on h = record {
+      w = clauseAt f (c .values) rises event (s .w);
+      walking = over;
+      stands = clause-place f (c .values) rises event (s .w) wide-here ∙ ap (λ i. i + widthOf (getD f i 0)) (s .stands);
+      so = h;
+    }
+
+-- whatever the configuration
 abbrev pub Reached : List ℕ → Values → ℕ → ℕ → Type 0
-Reached f event at place = (c : Configuration) (rises : List Bool) → Standing f event at place c rises
+Reached f event at place = (c : Configuration) (rises : List Bool) → Standing (Keeps c) f event at place c rises
+
+-- a place that is reached is reached by the walk of every configuration, over any values
+pub reached : (f : List ℕ) (at place : ℕ) → Reaches f at place → (event : Values) → Reached f event at place
+unfolding begun
+reached f at _ begins event c rises = stand-start (Keeps c) f event at c rises (λ v h. (h, refl))
+reached f at _ (onward place r n) event c rises =
+    let s = reached f at place r event c rises in
+    stand-on (Keeps c) f event at c rises place n s (clause-held c f rises event (s .w) (s .so))
 
 module _ (f : List ℕ) (event : Values) (at : ℕ) where
-  pub reach-start : Reached f event at (at + 2)
-  unfolding begun
-  reach-start c rises = record { w = begun at c; walking = walking-start f (c .values) rises event (begun at c); stands = refl }
+  -- a walk that does not pass behind a clause: the step does not fire
+  silenced : (place : ℕ) → (widthOf (getD f place 0) ≡ 0 → ⊥) → (c : Configuration) (s : Standing (Keeps c) f event at place c (replicate 8 false))
+      → (clauseAt f (c .values) (replicate 8 false) event (s .w)) .passes ≡ false → (fresh : List Bool) → (fired f at c fresh event) .fires ≡ false
+  unfolding fired walked
+  silenced place n c s k fresh =
+      let q = over (Keeps c) f event at c (replicate 8 false) place n s in
+      let p : (walkFrom (suc (length f)) f (c .values) (replicate 8 false) event (begun at c)) .passes ≡ false
+      = ap (λ (v : Walked). v .passes) (q .ahead) ∙ walk-fails f (c .values) (replicate 8 false) event (q .left) _ k in
+      go (leb (length f) at) _ _ refl (and-fails _ _ p)
+    where
+      go : (t : Bool) (a d : Fired) → a .fires ≡ false → d .fires ≡ false → (cond t a d) .fires ≡ false
+      go true a d h k = h
+      go false a d h k = k
 
   module _ (place taken command : ℕ) (e₁ : command ≡ getD f place 0) (e₂ : taken ≡ widthOf command) (n : taken ≡ 0 → ⊥) (r : Reached f event at place) where
-    wide-here : (w : Walked) → w .at ≡ place → widthOf (getD f (w .at) 0) ≡ 0 → ⊥
-    wide-here w a = rw (a, ← e₁, ← e₂) n
-
-    -- over the clause
-    over : (c : Configuration) (rises : List Bool)
-        → Walking f (c .values) rises event (begun at c) (clauseAt f (c .values) rises event ((r c rises) .w))
-    over c rises =
-        let s = r c rises in
-        walking-more f (c .values) rises event (begun at c) (s .w) _ (s .walking) (width-clause (getD f (s .w .at) 0) (wide-here (s .w) (s .stands))) refl
-
-    pub reach-on : Reached f event at (place + taken)
-    reach-on c rises =
-        let s = r c rises in
-        record {
-          w = clauseAt f (c .values) rises event (s .w);
-          walking = over c rises;
-          stands =
-              clause-place f (c .values) rises event (s .w) (wide-here (s .w) (s .stands))
-              ∙ ap (λ i. i + widthOf (getD f i 0)) (s .stands)
-              ∙ ap (λ i. place + i) (sym (e₂ ∙ ap widthOf e₁));
-        }
+    wide : widthOf (getD f place 0) ≡ 0 → ⊥
+    wide = wide-there f place taken command e₁ e₂ n
 
     -- an absent field, or a TEST that is false: no walk passes, so the step does not fire
     pub silent-here : failsAt f command place event ≡ true → (fresh : List Bool) (c : Configuration) → (fired f at c fresh event) .fires ≡ false
-    unfolding fired walked
     silent-here k fresh c =
         let s = r c (replicate 8 false) in
         let a : failsAt f (getD f (s .w .at) 0) (s .w .at) event ≡ true = rw (s .stands, ← e₁) k in
-        let q = over c (replicate 8 false) in
-        let p : (walkFrom (suc (length f)) f (c .values) (replicate 8 false) event (begun at c)) .passes ≡ false
-        = ap (λ (v : Walked). v .passes) (q .ahead)
-        ∙ walk-fails f (c .values) (replicate 8 false) event (q .left) _ (fails-here f (c .values) (replicate 8 false) event (s .w) a) in
-        go (leb (length f) at) _ _ refl (and-fails _ _ p)
-      where
-        go : (t : Bool) (a d : Fired) → a .fires ≡ false → d .fires ≡ false → (cond t a d) .fires ≡ false
-        go true a d h k = h
-        go false a d h k = k
+        silenced place wide c s (fails-here f (c .values) (replicate 8 false) event (s .w) a) fresh
+
+    -- a TESTV that is false, or a BIND of a held variable to another value: no walk of a configuration that holds it passes
+    pub denied-here : (held : List Bool) (prior : List ℕ) → deniesAt f command place held prior event ≡ true → (fresh : List Bool) (c : Configuration)
+        → c .held ≡ held → c .values ≡ prior → (fired f at c fresh event) .fires ≡ false
+    denied-here held prior k fresh c e₃ e₄ =
+        let s = r c (replicate 8 false) in
+        let a : deniesAt f (getD f (s .w .at) 0) (s .w .at) (c .held) (c .values) event ≡ true = rw (s .stands, ← e₁, e₃, e₄) k in
+        silenced place wide c s (denies-here c f (replicate 8 false) event (s .w) (s .so) a) fresh
 
     -- a TEST past due: whatever is held, the step is expired
     pub late-here : (rises : List Bool) → missesAt f command place rises event ≡ true → (fresh : List Bool) (c : Configuration)
@@ -252,7 +327,7 @@ module _ (f : List ℕ) (event : Values) (at : ℕ) where
     late-here rises k fresh c =
         let s = r c rises in
         let a : missesAt f (getD f (s .w .at) 0) (s .w .at) rises event ≡ true = rw (s .stands, ← e₁) k in
-        let q = over c rises in
+        let q = over (Keeps c) f event at c rises place wide s in
         let d : (walkFrom (suc (length f)) f (c .values) rises event (begun at c)) .due ≡ true
         = ap (λ (v : Walked). v .due) (q .ahead)
         ∙ walk-due f (c .values) rises event (q .left) _ (misses-here f (c .values) rises event (s .w) a) in
@@ -262,17 +337,12 @@ module _ (f : List ℕ) (event : Values) (at : ℕ) where
         go true u v h = refl
         go false u v h = rw h
 
--- a place that is reached is reached by the walk of every configuration, over any values
-pub reached : (f : List ℕ) (at place : ℕ) → Reaches f at place → (event : Values) → Reached f event at place
-reached f at _ begins event = reach-start f event at
-reached f at _ (onward place r n) event = reach-on f event at place (widthOf (getD f place 0)) (getD f place 0) refl refl n (reached f at place r event)
-
 -- one clause more, as the code reads it
 pub reaches-on : (f : List ℕ) (at place taken command : ℕ) → command ≡ getD f place 0 → taken ≡ widthOf command → (taken ≡ 0 → ⊥)
     → Reaches f at place → Reaches f at (place + taken)
 reaches-on f at place taken command e₁ e₂ n r =
     let e : taken ≡ widthOf (getD f place 0) = e₂ ∙ ap widthOf e₁ in
-    subst (λ t. Reaches f at (place + t)) (sym e) (onward place r (subst (λ t. t ≡ 0 → ⊥) e n))
+    subst (λ t. Reaches f at (place + t)) (sym e) (onward place r (wide-there f place taken command e₁ e₂ n))
 
 -- the clause as the code reads it
 module _ (f : List ℕ) (there : List Bool) (values : List ℕ) (c p k : ℕ) (e : k ≡ getD f (p + 1) 0) where

@@ -12,7 +12,7 @@ ghost use lib.ListN.{getD, length};
 ghost use Rattle.machine_code.specs.inner.Bytes.{holdsBy, missedBy, isClause, tested, holding, bound, noted, met, clauseOn, clauseAt, begun, walked};
 
 // Either of two tests.
-fn either(a: bool, b: bool) -> bool
+pub fn either(a: bool, b: bool) -> bool
     ensures { λ r. ⌜ r ≡ (a || b) ⌝ }
 {
     if a { true } else { b }
