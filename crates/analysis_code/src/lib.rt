@@ -305,7 +305,9 @@ fn checked(l: &[u8], f: &[u8], files: FilesReading, work: &mut [u32], rows: &mut
     let places = log.places;
     let table = formula.table;
     let tied = held_in(formula.tied);
-    let scope = search_code::scope_of(log, formula, search_code::slots_of(work.len()));
+    let lasting = search_code::lasting_of(f, log, formula);
+    let slots = search_code::slots_of(work.len());
+    let scope = search_code::scope_of(log, formula, lasting, slots);
     all_starts(l, &places, f, &table, scope, tied, work, rows)
 }
 

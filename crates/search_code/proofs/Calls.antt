@@ -27,6 +27,8 @@ use Rattle.search.specs.declared.SearchAnswer.{SearchAnswer}
 use Rattle.search.specs.Search.{slotsOf, refusal, checked, answered, searchAnswer}
 use Rattle.search.specs.Call.{Untouched}
 use Rattle.search.proofs.Demand.{only-crowded}
+use mathlib.Core.Bool.{Bool}
+use Rattle.threads.specs.inner.Setting.{LastingIs}
 use Rattle.search_code.specs.inner.Turn.{scopeOf, Given, Told, SearchedFrom}
 use Rattle.search_code.specs.inner.Checks.{CheckedIs}
 
@@ -36,10 +38,11 @@ unfolding slotsOf
 slots-fit words h = omega arith
 
 -- what the readers of two accepted files hand on
-pub handed : (t : LogFile) (fm : Formula) (l f : List ℕ) (log : LogReading) (formula : FormulaReading) (slots : ℕ) → Accepted t fm l log f formula
-    → Given (logOf t) fm l (log .places) f (formula .table) (scopeOf log formula slots)
+pub handed : (t : LogFile) (fm : Formula) (l f : List ℕ) (log : LogReading) (formula : FormulaReading) (lasting : List Bool) (slots : ℕ)
+    → LastingIs f (formula .table) (log .rises) lasting → Accepted t fm l log f formula
+    → Given (logOf t) fm l (log .places) f (formula .table) (scopeOf log formula lasting slots)
 unfolding LogRead.answerOf formulaAnswer kindsOf
-handed t fm l f log formula slots a =
+handed t fm l f log formula lasting slots o a =
     record {
       setting =
           record {
@@ -50,6 +53,7 @@ handed t fm l f log formula slots a =
             kinds-are = ap (λ (x : FormulaReading). x .kinds) (a .formula-read);
             rising-are = ap (λ (x : LogReading). x .rises) (a .log-read);
             fields-are = ap (λ (x : LogReading). x .fields) (a .log-read);
+            lasting-are = o;
           };
       leads = subst (λ (ps : List ℕ). Leads l ps (logOf t)) (sym (ap (λ (x : LogReading). x .places) (a .log-read)))
           (table-leads t l (a .log-correct) (a .log-bytes));
@@ -69,15 +73,16 @@ module _ (l f : List ℕ) (files : FilesReading) (start : ℕ) (work : List ℕ)
       let k : start < length ((logOf t) .events) = omega (arith, ap (λ (x : LogReading). x .events) (a .log-read)) in
       (q ∙ rw (lt-leb (length ((logOf t) .events)) start k, lt-ltb (length work) 192 w), λ why v u. refl)
 
-  pub searched : (slots end : ℕ) (after : List ℕ) (seen : Latest) (r : SearchAnswer) → 192 ≤ length work → slots ≡ slotsOf (length work)
-      → Told l (files .log .places) (scopeOf (files .log) (files .formula) slots) start end seen
-      → SearchedFrom l (files .log .places) f (files .formula .table) (scopeOf (files .log) (files .formula) slots) start end seen r
+  pub searched : (lasting : List Bool) (slots end : ℕ) (after : List ℕ) (seen : Latest) (r : SearchAnswer) → 192 ≤ length work → slots ≡ slotsOf (length work)
+      → LastingIs f (files .formula .table) (files .log .rises) lasting
+      → Told l (files .log .places) (scopeOf (files .log) (files .formula) lasting slots) start end seen
+      → SearchedFrom l (files .log .places) f (files .formula .table) (scopeOf (files .log) (files .formula) lasting slots) start end seen r
       → CheckedIs l f files start work after r
   unfolding checked LogRead.answerOf
-  searched slots end after seen r w n d s t fm a =
+  searched lasting slots end after seen r w n o d s t fm a =
       let g = logOf t in
       let k : start < length (g .events) = omega (arith, d .there, ap (λ (x : LogReading). x .events) (a .log-read)) in
-      let answer = s g fm (handed t fm l f (files .log) (files .formula) slots a) d in (
+      let answer = s g fm (handed t fm l f (files .log) (files .formula) lasting slots o a) d in (
         rw (lt-leb (length (g .events)) start k, le-ltb (length work) 192 w, ← n) answer,
         λ why v u. absurd (only-crowded g fm (search (machine g fm) slots start) why (ap (λ (x : SearchAnswer). x .verdict) (sym answer) ∙ v) u),
       )

@@ -7,12 +7,12 @@ use Rattle.event_log.specs.Correct as LogCorrect
 use Rattle.formula.specs.Formula.{Formula}
 use Rattle.formula.specs.Correct as FormulaCorrect
 use Rattle.runs.specs.inner.Search.{search}
-use Rattle.runs.specs.inner.Threads.{threads}
-use Rattle.runs.proofs.Select.{threads-search}
+use Rattle.runs.specs.inner.Settle.{swift}
+use Rattle.runs.proofs.Settle.{swift-search}
 use Rattle.machine.specs.Machine.{machine}
 use Rattle.machine.proofs.Premises.{keeps}
 
 module _ (g : Log) (fm : Formula) (log : LogCorrect.Recorded g) (formula : FormulaCorrect.Correct (length (g .fields)) fm) where
   -- the list of threads gives the search's answer
-  pub threads-give : (slots i : ℕ) → i ≤ length (g .events) → threads (machine g fm) slots i ≡ search (machine g fm) slots i
-  threads-give slots i h = threads-search (machine g fm) (keeps g fm log formula) slots i h
+  pub swift-gives : (slots i : ℕ) → i ≤ length (g .events) → swift (machine g fm) slots i ≡ search (machine g fm) slots i
+  swift-gives slots i h = swift-search (machine g fm) (keeps g fm log formula) slots i h

@@ -23,12 +23,13 @@ use Rattle.event_log.proofs.LastSeen.{latest-next, latest-none, length-event, l
 use Rattle.event_log.proofs.Arrays.{later-shown}
 use Rattle.formula.specs.Formula.{Formula}
 use Rattle.runs.specs.Machine.{Machine}
-use Rattle.runs.specs.inner.Search.{endings, least, leastFrom, next, endFrom, endOf, origin, search}
+use Rattle.runs.specs.inner.Search.{endings, least, leastFrom, endFrom, endOf, origin, search}
 use Rattle.runs.specs.Answer.{found, absent}
 use Rattle.runs.specs.inner.Lists.{keep, inTurn}
-use Rattle.runs.specs.inner.Threads.{candidates, insertWithin, follow, threads}
+use Rattle.runs.specs.inner.Threads.{insertWithin, chain}
+use Rattle.runs.specs.inner.Settle.{stayers, movers, settle, pursue, swift}
 use Rattle.runs.specs.Order.{events, numbers}
-use Rattle.runs.proofs.Loop.{ahead, event-over, event-found, event-crowded, event-next}
+use Rattle.runs.proofs.Pursuit.{ahead, event-over, event-found, event-crowded, event-next}
 use Rattle.machine.specs.inner.Along.{along}
 use Rattle.machine.specs.Configuration.{start}
 use Rattle.machine.specs.Machine.{machine, kindIs, isAccept, accepting}
@@ -44,7 +45,7 @@ use Rattle.search.specs.declared.Verdict.the-variants.{Absent, Accept, Reject}
 use Rattle.search_code.specs.declared.Outcome.the-variants.{Found, Crowded, Waiting}
 use Rattle.search.specs.Search.{without, refusal, answerOf}
 use Rattle.search_code.specs.inner.Turn.{seenNext, seenTo, endTo, momentOf, namedAnswer, TurnTo}
-use Rattle.search_code.proofs.Lawful.{threads-give}
+use Rattle.search_code.proofs.Lawful.{swift-gives}
 use Rattle.search_code.proofs.Arrays.{accepts}
 
 module _ (g : Log) (l places : List ℕ) (fields : ℕ) (ok : Recorded g) (leads : Leads l places g) (are : fields ≡ length (g .fields)) where
@@ -154,8 +155,8 @@ fit-origin g fm h =
     }
 
 -- where nobody waits, no run is found and nobody waits any more
-nobody : (M : Machine) (slots k n p : ℕ) → follow M slots k n [] p ≡ absent p
-unfolding follow candidates insertWithin least leastFrom endings next inTurn keep
+nobody : (M : Machine) (slots k n p : ℕ) → pursue M slots k n [] p ≡ absent p
+unfolding pursue settle movers stayers insertWithin least leastFrom endings inTurn keep
 nobody M slots zero n p = refl
 nobody M slots (suc k) n p = nobody M slots k (suc n) (max p 0) ∙ ap absent (omega arith)
 
@@ -192,24 +193,24 @@ module _ (g : Log) (fm : Formula) where
 module _ (g : Log) (fm : Formula) (f table : List ℕ) (rules : Rules) (s : Setting g fm f table rules) where
   -- before the first event only the start configuration waits
   pub going-start : (slots i : ℕ) (work : List ℕ) → i < length (g .events) → list 0 1 work ≡ originThread ∷ [] → Going g fm slots i i 0 1 0 work
-  unfolding threads
+  unfolding swift
   going-start slots i work h e =
       record {
         kept = record { fit = rw e (fit-origin g fm (s .formula .formed .nonempty), tt); short = rw e (omega arith, tt) };
-        leads = sym (threads-give g fm (s .log) (s .formula) slots i (omega arith))
+        leads = sym (swift-gives g fm (s .log) (s .formula) slots i (omega arith))
             ∙ ap (λ ths. ahead (machine g fm) (end g fm i) slots i ths 0) (waiting-origin g fm work e);
       }
 
   module _ (slots i n half count width : ℕ) (work : List ℕ) (go : Going g fm slots i n half count width work) where
     -- no run ends on event n, and the next list has room
     pub going-next : (more : ℕ) (t : Thread) (after : List ℕ) → n < end g fm i → TurnTo g fm half count slots n work after t (Waiting more)
-        → Going g fm slots i (n + 1) (1 - half) more (max width more) after
+        → Going g fm slots i (n + 1) half more (max width more) after
     going-next more t after h turn =
-        let next = waitingIn g fm (1 - half) more after in
+        let next = waitingIn g fm half more after in
         record {
           kept = turn .2;
           leads = go .leads ∙ event-next (machine g fm) (end g fm i) slots n width (waitingIn g fm half count work) next h (turn .0) (turn .1)
-              ∙ ap₂ (λ m c. ahead (machine g fm) (end g fm i) slots m next (max width c)) (sym (add-one n)) (length-waiting g fm (1 - half) more after);
+              ∙ ap₂ (λ m c. ahead (machine g fm) (end g fm i) slots m next (max width c)) (sym (add-one n)) (length-waiting g fm half more after);
         }
 
     named-is : (t : Thread) → Fit g fm t → answerOf g fm (found (conf g fm t) (trailOf t) width) ≡ namedAnswer (rules .kinds) t width

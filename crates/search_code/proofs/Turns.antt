@@ -30,7 +30,7 @@ use Rattle.threads.specs.declared.Rules.{Rules}
 use Rattle.threads.specs.declared.Moment.{Moment}
 use Rattle.threads.specs.declared.Seats.{Seats}
 use Rattle.threads.specs.inner.Setting.{Setting, EventTable, Scene}
-use Rattle.threads.specs.inner.Event.{Kept, waitingIn, bestBy, EndingIs, AdvancedTo, AdvancedIs}
+use Rattle.threads.specs.inner.Event.{Kept, waitingIn, bestBy, EndingIs, SettledTo, SettledIs}
 use Rattle.search.specs.declared.Verdict.the-variants.{Absent}
 use Rattle.search.specs.declared.SearchAnswer.{SearchAnswer}
 use Rattle.search_code.specs.declared.Outcome.the-variants.{Found, Crowded, Waiting}
@@ -51,20 +51,20 @@ module _ (l places f table : List ℕ) (rules : Rules) (m : Moment) (z : Seats) 
   no-ending q g fm s k = sym (e g fm s k .0) ∙ ap (λ x. bestBy g fm x (b .thread)) q
 
   -- no run ends on it, and more wait after it than there are slots
-  pub crowded-turn : (more : ℕ) → b .found ≡ false → AdvancedIs l places f table rules m z before after more → z .slots < more
+  pub crowded-turn : (more : ℕ) → b .found ≡ false → SettledIs l places f table rules m z before after more → z .slots < more
       → TurnIs l places f table rules m z before after (record { outcome = Crowded; thread = b .thread })
   crowded-turn more q a h g fm s k = go (a g fm s k)
     where
-      go : AdvancedTo g fm (m .number) z before after more → TurnTo g fm (z .half) (z .count) (z .slots) (m .number) before after (b .thread) Crowded
+      go : SettledTo g fm (m .number) z before after more → TurnTo g fm (z .half) (z .count) (z .slots) (m .number) before after (b .thread) Crowded
       go (inl x) = absurd (omega (arith, x .0))
       go (inr x) = (no-ending q g fm s k, x .1)
 
   -- no run ends on it, and the next waiting list has room
-  pub next-turn : (more : ℕ) → b .found ≡ false → AdvancedIs l places f table rules m z before after more → more ≤ z .slots
+  pub next-turn : (more : ℕ) → b .found ≡ false → SettledIs l places f table rules m z before after more → more ≤ z .slots
       → TurnIs l places f table rules m z before after (record { outcome = Waiting more; thread = b .thread })
   next-turn more q a h g fm s k = go (a g fm s k)
     where
-      go : AdvancedTo g fm (m .number) z before after more → TurnTo g fm (z .half) (z .count) (z .slots) (m .number) before after (b .thread) (Waiting more)
+      go : SettledTo g fm (m .number) z before after more → TurnTo g fm (z .half) (z .count) (z .slots) (m .number) before after (b .thread) (Waiting more)
       go (inl x) = (no-ending q g fm s k, x .1, x .2)
       go (inr x) = absurd (omega (arith, x .0))
 
@@ -182,14 +182,14 @@ module _ (l places f table : List ℕ) (scope : Scope) (i end : ℕ) (before : L
       later-on m n′ o h = rw o (cond-holds (λ z. i ≤ z) (eqb m 0) end (n + 1) (λ e. omega (arith, h, more)) (λ e. omega (arith, h)))
 
       pub searching-next : (m n′ : ℕ) → turn .outcome ≡ Waiting m → n′ ≡ cond (eqb m 0) end (n + 1)
-          → Searching l places f table scope i end before n′ (1 - half) m (max width m) after (laterOf seen (loaded .event))
+          → Searching l places f table scope i end before n′ half m (max width m) after (laterOf seen (loaded .event))
       searching-next m n′ q o g fm x d =
           let y = subst (TurnTo g fm half count (scope .slots) n work after (turn .thread)) q (turned g fm x d) in
           let s = S g fm x d in
           let same = end-same g fm l places f table scope i end before x d in
           let go = going-next g fm f table (scope .rules) (x .setting) (scope .slots) i n half count width work (s .0) m (turn .thread) after
           (omega (arith, more, same)) y in (
-            going-onward g fm (scope .slots) i (n + 1) (1 - half) m (max width m) after n′ (o ∙ ap (λ e. cond (eqb m 0) e (n + 1)) same) go,
+            going-onward g fm (scope .slots) i (n + 1) half m (max width m) after n′ (o ∙ ap (λ e. cond (eqb m 0) e (n + 1)) same) go,
             later-on m n′ o (s .1),
             λ h. onward n′ m o (s .2 more) (unmarked-inside g fm l places f table scope i end before x d n (s .1)) h,
           )

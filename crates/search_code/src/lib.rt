@@ -24,7 +24,7 @@ ghost use Rattle.slots.specs.inner.Words.{list};
 ghost use Rattle.search.specs.Search.{slotsOf, without, refusal};
 ghost use Rattle.search.specs.Call.{Searched};
 ghost use Rattle.search_code.specs.inner.Turn.{entriesOf, verdictAt, namedAnswer, seenNext, seenTo, stretchEnd, momentOf, TurnIs, TurnOf, Fits, scopeOf, SearchedFrom};
-ghost use Rattle.threads.specs.inner.Setting.{Wide};
+ghost use Rattle.threads.specs.inner.Setting.{Wide, LastingIs};
 ghost use Rattle.threads.specs.inner.Event.{Seated};
 ghost use Rattle.search_code.specs.inner.Checks.{CheckedIs};
 
@@ -208,7 +208,7 @@ pub fn stretch_end(l: &[u8], places: &[usize; 1024], scope: Scope, start: usize)
     n
 }
 
-// One event: the least run that ends on it; else the waiting list after it, in the other half, or crowded.
+// One event: the least run that ends on it; else the waiting list after it, or crowded.
 fn one_event(
     work: &mut [u32],
     seats: Seats,
@@ -231,7 +231,7 @@ fn one_event(
             thread,
         };
     }
-    let more = threads::advance(work, seats, l, places, f, table, rules, moment);
+    let more = threads::settle(work, seats, l, places, f, table, rules, moment);
     if seats.slots < more {
         return Turn {
             outcome: Outcome::Crowded,
@@ -293,7 +293,6 @@ pub fn search_from(
     origin_in(work);
     let wide = threads::table::widened(table);
     let rules = scope.rules;
-    let mut half: usize = 0;
     let mut count: usize = 1;
     let mut width: usize = 0;
     let mut seen = before;
@@ -304,7 +303,7 @@ pub fn search_from(
         let moment = moment_of(n, seen, event);
         seen = moment.latest;
         let seats = Seats {
-            half,
+            half: 0,
             count,
             slots: scope.slots,
         };
@@ -316,7 +315,6 @@ pub fn search_from(
             Outcome::Waiting(more) => {
                 count = more;
                 width = larger(width, more);
-                half = 1 - half;
                 n = onward(n, more, end);
             }
         }
@@ -332,9 +330,23 @@ pub fn slots_of(words: usize) -> usize
     if slots < 64 { slots } else { 64 }
 }
 
-// What the readers of two accepted files say of a search with so many slots.
-pub fn scope_of(log: LogReading, formula: FormulaReading, slots: usize) -> Scope
-    ensures { λ r. ⌜ r ≡ scopeOf log formula slots ⌝ }
+// States some step of which never expires, by the readers' answers: for speed alone.
+pub fn lasting_of(f: &[u8], log: LogReading, formula: FormulaReading) -> [bool; 16]
+    ensures { λ r. ⌜ LastingIs (now (f .entry)) (formula .table) (log .rises) r ⌝ }
+{
+    let table = formula.table;
+    let rises = log.rises;
+    threads::table::lasting(f, &table, &rises)
+}
+
+// What the readers of two accepted files say of a search with so many slots; `lasting` marks states some step of which never expires.
+pub fn scope_of(
+    log: LogReading,
+    formula: FormulaReading,
+    lasting: [bool; 16],
+    slots: usize,
+) -> Scope
+    ensures { λ r. ⌜ r ≡ scopeOf log formula lasting slots ⌝ }
 {
     let kinds = formula.kinds;
     let rises = log.rises;
@@ -344,6 +356,7 @@ pub fn scope_of(log: LogReading, formula: FormulaReading, slots: usize) -> Scope
             kinds,
             rises,
             fields: log.fields,
+            lasting,
         },
         slots,
     }
@@ -366,7 +379,8 @@ fn checked(l: &[u8], f: &[u8], files: FilesReading, start: usize, work: &mut [u3
     let formula = files.formula;
     let places = log.places;
     let table = formula.table;
-    let scope = scope_of(log, formula, slots_of(words));
+    let lasting = lasting_of(f, log, formula);
+    let scope = scope_of(log, formula, lasting, slots_of(words));
     let seen = seen_before(l, &places, scope, start);
     let end = stretch_end(l, &places, scope, start);
     search_from(l, &places, f, &table, scope, start, end, seen, work)

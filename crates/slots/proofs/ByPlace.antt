@@ -10,10 +10,10 @@ use lib.Seq.{set-getD}
 use Rattle.runs.specs.inner.Order.{order}
 use Rattle.slots.specs.declared.Thread.{Thread}
 use Rattle.slots.specs.inner.Threads.{Sized, trailOf, comesAfter, replaced, lesserThread, placed, insertThread, foundOr, position}
-use Rattle.slots.specs.inner.Words.{wordsOf, threadAt, put, place, threadsFrom, list, Around, InsertedAt}
+use Rattle.slots.specs.inner.Words.{wordsOf, threadAt, put, place, threadsFrom, list, Around, InsertedAt, KeptAt}
 use Rattle.slots.proofs.Parts.{put-length}
 use Rattle.slots.proofs.Words.{words-length}
-use Rattle.slots.proofs.Slots.{threads-elsewhere, threads-stored, threads-length, thread-at, list-more, stored-here}
+use Rattle.slots.proofs.Slots.{threads-elsewhere, threads-stored, threads-length, thread-at, list-more, stored-here, stored-elsewhere}
 
 -- what holds of the numbers of two ranges, one behind the other, holds of both
 pub ranges : (P : ℕ → Type 0) (a i b : ℕ) → ((k : ℕ) → a ≤ k → k < i → P k) → ((k : ℕ) → i ≤ k → k < b → P k) → (k : ℕ) → a ≤ k → k < b → P k
@@ -176,3 +176,34 @@ module _ (half count slots : ℕ) (b : Thread) (s : Sized b) (l : List ℕ) (roo
 pub leaves : (half count slots at : ℕ) (b : Thread) (l : List ℕ) (r : ℕ) (w : List ℕ) {v : List ℕ} → w ≡ v → InsertedAt half count slots at b l v r
     → InsertedAt half count slots at b l w r
 leaves half count slots at b l r w e i = rw e i
+
+-- ---- a thread of the list that is kept
+
+module _ (half count slot : ℕ) (t : Thread) (s : Sized t) (l : List ℕ) (fits : slot * 192 + 192 ≤ length l) (which : half < 2) where
+  -- threads before it were dropped: it moves down
+  pub kept-moved : count < slot → KeptAt half count slot t l (put l (place half count) (wordsOf t))
+  kept-moved h =
+      let n = words-length t s in
+      let front : list half count (put l (place half count) (wordsOf t)) ≡ list half count l =
+      threads-elsewhere l t s half count (omega arith) half 0 count (λ i p q z. omega arith) in
+      let back : threadAt (put l (place half count) (wordsOf t)) (place half count) ≡ t = stored-here l t s (place half count) (omega arith) in
+      record {
+        listed = list-more half count (put l (place half count) (wordsOf t)) ∙ rw (front, back) refl;
+        behind = λ i k. stored-elsewhere l t s half count half i (omega arith) (λ z. omega arith);
+        other = λ half' k n e. threads-elsewhere l t s half count (omega arith) half' k n (λ i p q. apart half half' i count e);
+        sized = put-length l (place half count) (wordsOf t) (omega arith);
+      }
+
+-- none was: it stays, and so does every word
+pub kept-still : (half count slot : ℕ) (t : Thread) (l : List ℕ) → slot ≤ count → count ≤ slot → t ≡ threadAt l (place half slot) → KeptAt half count slot t l l
+kept-still half count slot t l h k e =
+    let q : slot ≡ count = omega arith in
+    record {
+      listed = list-more half count l ∙ ap (λ (x : Thread). list half count l ++ (x ∷ [])) (ap (λ i. threadAt l (place half i)) (sym q) ∙ sym e);
+      behind = λ i j. refl;
+      other = λ half' j n z. refl;
+      sized = refl;
+    }
+
+pub kept-as : (half count slot : ℕ) (t : Thread) (l w : List ℕ) {v : List ℕ} → w ≡ v → KeptAt half count slot t l v → KeptAt half count slot t l w
+kept-as half count slot t l w e k = rw e k

@@ -1,7 +1,7 @@
 -- Comparing words: a word with a flag, trails from the front (what is left from place i on), and configurations part by part.
 use Prim.Native.Nat.{ℕ, zero, suc, _+_, _<_, _≤_, _/_, _%_, compare, Ordering, Ordering·lt, Ordering·eq, Ordering·gt, compare·suc-zero, compare·suc-suc}
 use mathlib.Core.Path.{_≡_, refl, _∙_}
-use mathlib.Core.Bool.{Bool, true, false, not, Bool·beq}
+use mathlib.Core.Bool.{Bool, true, false, not, _&&_, Bool·beq}
 use mathlib.Core.List.{List, map}
 use native.Mathlib.Numerals.{add-one}
 use native.Mathlib.Omega.{arith}
@@ -82,28 +82,50 @@ module _ (xs ys : List ℕ) (i : ℕ) (o : Ordering) (e : o ≡ lex (drop i xs) 
   unfolding lex
   lex-both hx hy = e ∙ rw (drop-of-length-le xs hx, drop-of-length-le ys hy)
 
--- the configuration of words against another, by the first field that differs
+-- one part that differs decides, whatever the parts before it say
+fourth-differs : (h v t : Bool) → false ≡ (true && h && v && false && t)
+fourth-differs true true t = refl
+fourth-differs true false t = refl
+fourth-differs false true t = refl
+fourth-differs false false t = refl
+
+third-differs : (h k t : Bool) → false ≡ (true && h && false && k && t)
+third-differs true k t = refl
+third-differs false k t = refl
+
+-- the configuration of words against another, by the first difference that is met: of the state, the counters, the values, the variables held
 module _ (ws : List ℕ) (c : Configuration) where
+  abbrev held-same : Bool
+  held-same = sameList Bool·beq (map isSet (take 8 (drop 1 ws))) (c .held)
+
+  abbrev values-same : Bool
+  values-same = sameList eqb (take 8 (drop 9 ws)) (c .values)
+
+  abbrev counters-same : Bool
+  counters-same = sameList eqb (take 16 (drop 17 ws)) (c .counters)
+
+  abbrev tallies-same : Bool
+  tallies-same = sameList eqb (take 12 (drop 33 ws)) (c .tallies)
+
   pub differs-state : (getD ws 0 0 ≡ c .state → ⊥) → false ≡ sameWords (threadOf ws .config) c
   unfolding sameWords threadOf
   differs-state h = rw (ne-eqb (getD ws 0 0) (c .state) h)
 
   module _ (state : getD ws 0 0 ≡ c .state) where
-    pub differs-held : sameList Bool·beq (map isSet (take 8 (drop 1 ws))) (c .held) ≡ false → false ≡ sameWords (threadOf ws .config) c
+    pub differs-counters : counters-same ≡ false → false ≡ sameWords (threadOf ws .config) c
     unfolding sameWords threadOf
-    differs-held h = rw (eq-eqb (getD ws 0 0) (c .state) state, h)
+    differs-counters h = rw (eq-eqb (getD ws 0 0) (c .state) state, h) (fourth-differs held-same values-same tallies-same)
 
-    module _ (held : sameList Bool·beq (map isSet (take 8 (drop 1 ws))) (c .held) ≡ true) where
-      pub differs-values : sameList eqb (take 8 (drop 9 ws)) (c .values) ≡ false → false ≡ sameWords (threadOf ws .config) c
+    module _ (counters : counters-same ≡ true) where
+      pub differs-values : values-same ≡ false → false ≡ sameWords (threadOf ws .config) c
       unfolding sameWords threadOf
-      differs-values h = rw (eq-eqb (getD ws 0 0) (c .state) state, held, h)
+      differs-values h = rw (eq-eqb (getD ws 0 0) (c .state) state, h) (third-differs held-same counters-same tallies-same)
 
-      module _ (values : sameList eqb (take 8 (drop 9 ws)) (c .values) ≡ true) where
-        pub differs-counters : sameList eqb (take 16 (drop 17 ws)) (c .counters) ≡ false → false ≡ sameWords (threadOf ws .config) c
+      module _ (values : values-same ≡ true) where
+        pub differs-held : held-same ≡ false → false ≡ sameWords (threadOf ws .config) c
         unfolding sameWords threadOf
-        differs-counters h = rw (eq-eqb (getD ws 0 0) (c .state) state, held, values, h)
+        differs-held h = rw (eq-eqb (getD ws 0 0) (c .state) state, h)
 
-        pub by-tallies : sameList eqb (take 16 (drop 17 ws)) (c .counters) ≡ true → (r : Bool) → r ≡ sameList eqb (take 12 (drop 33 ws)) (c .tallies)
-            → r ≡ sameWords (threadOf ws .config) c
+        pub by-tallies : held-same ≡ true → (r : Bool) → r ≡ tallies-same → r ≡ sameWords (threadOf ws .config) c
         unfolding sameWords threadOf
-        by-tallies h r e = rw (eq-eqb (getD ws 0 0) (c .state) state, held, values, h, e)
+        by-tallies h r e = rw (eq-eqb (getD ws 0 0) (c .state) state, h, values, counters, e)

@@ -8,6 +8,7 @@ use native.Mathlib.Omega.{arith}
 use borrow.Author.Tests.{ltb-true, ltb-false}
 use lib.Dec.{ltb}
 use lib.ListN.{length, getD, take, drop, set}
+use lib.Seq.{getD-drop}
 use Rattle.slots.specs.declared.Thread.{Thread}
 use Rattle.slots.specs.inner.Threads.{Sized}
 use Rattle.slots.specs.inner.Words.{wordsOf, threadOf, threadAt, put, place, threadsFrom, list}
@@ -97,3 +98,12 @@ thread-at half k (suc n) l zero j d e h =
     let q : j ≡ k = omega arith in
     rw q
 thread-at half k (suc n) l (suc i) j d e h = thread-at half (suc k) n l i j d (omega arith) (omega arith)
+
+-- a thread's state and its number of steps, as words
+pub state-word : (l : List ℕ) (a : ℕ) → getD l a 0 ≡ threadAt l a .config .state
+unfolding threadOf
+state-word l a = sym (getD-drop a l 0 0 ∙ ap (λ i. getD l i 0) (omega arith))
+
+pub steps-word : (l : List ℕ) (a : ℕ) → getD l (a + 45) 0 ≡ threadAt l a .steps
+unfolding threadOf
+steps-word l a = sym (getD-drop a l 45 0)

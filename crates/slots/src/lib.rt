@@ -10,7 +10,7 @@ ghost use Rattle.runs.specs.inner.Order.{lex, order};
 ghost use Rattle.base.specs.Lists.{sameList};
 ghost use Rattle.base.specs.Mask.{bit};
 ghost use Rattle.slots.specs.inner.Threads.{originThread, trailOf, sameWords, comesAfter, Extended, key, sideOf, greaterOf};
-ghost use Rattle.slots.specs.inner.Words.{isSet, wordsOf, threadOf, threadAt, put, place, FoundFrom, InsertedAt};
+ghost use Rattle.slots.specs.inner.Words.{isSet, wordsOf, threadOf, threadAt, put, place, FoundFrom, InsertedAt, KeptAt};
 
 // A configuration with its trail: the number of steps taken and, for each of them, event * 8 + step number.
 pub struct Thread {
@@ -159,6 +159,15 @@ pub fn state_at(work: &[u32], slot: usize, half: usize) -> u32
     work[a]
 }
 
+// The number of steps of a slot's thread in one half.
+pub fn steps_at(work: &[u32], slot: usize, half: usize) -> u32
+    requires { ⌜ (slot * 192 + 192 ≤ length (now work)) × (half < 2) ⌝ }
+    ensures { λ r. ⌜ r ≡ getD (now (work .entry)) (place half slot + 45) 0 ⌝ }
+{
+    let a = offset(slot, half);
+    work[a + 45]
+}
+
 // Writes a thread into one half of a slot.
 pub fn store_slot(work: &mut [u32], slot: usize, half: usize, t: Thread)
     requires { ⌜ (slot * 192 + 192 ≤ length (now work)) × (half < 2) ⌝ }
@@ -207,7 +216,7 @@ fn same_flags(part: &[u32], held: [bool; 8]) -> bool
     true
 }
 
-// Whether a half's words hold a configuration's; the trail is not looked at.
+// Whether a half's words hold a configuration's, the counters first, which tell most apart; the trail is not looked at.
 fn same_at(part: &[u32], c: Configuration) -> bool
     requires { ⌜ 78 ≤ length (now part) ⌝ }
     ensures { λ r. ⌜ r ≡ sameWords ((threadOf (now (part .entry))) .config) c ⌝ }
@@ -215,16 +224,16 @@ fn same_at(part: &[u32], c: Configuration) -> bool
     if part[0] != c.state {
         return false;
     }
-    let held = c.held;
-    if !same_flags(&part[1..9], held) {
+    let counters = c.counters;
+    if !same_words(&part[17..33], &counters) {
         return false;
     }
     let values = c.values;
     if !same_words(&part[9..17], &values) {
         return false;
     }
-    let counters = c.counters;
-    if !same_words(&part[17..33], &counters) {
+    let held = c.held;
+    if !same_flags(&part[1..9], held) {
         return false;
     }
     let tallies = c.tallies;
@@ -354,4 +363,14 @@ pub fn insert_at(
         return count + 1;
     }
     slots + 1
+}
+
+// Keeps the thread of a slot in one half at the end of the list there, which ends before it.
+pub fn keep_slot(work: &mut [u32], half: usize, count: usize, slot: usize, t: Thread)
+    requires { ⌜ (slot * 192 + 192 ≤ length (now work)) × (half < 2) × (count ≤ slot) × (t ≡ threadAt (now work) (place half slot)) ⌝ }
+    ensures { λ _. ⌜ KeptAt half count slot t (now (work .entry)) (now (work .exit)) ⌝ }
+{
+    if count < slot {
+        store_slot(work, count, half, t);
+    }
 }

@@ -1,7 +1,8 @@
 -- What a thread may do on an event: its moves are those of a range of steps; and whether it may stay.
 use Prim.Native.Nat.{ℕ, _+_, _-_, _<_}
 use mathlib.Core.Path.{_≡_, refl, ap, sym, _∙_}
-use mathlib.Core.Bool.{true, false, _&&_, and-true, true≢false, false≢true}
+use mathlib.Core.Bool.{Bool, true, false, _&&_, and-true, true≢false, false≢true}
+use mathlib.Core.List.{[]}
 use mathlib.Core.Option.{Option, none, some}
 use native.Mathlib.Omega.{arith}
 use lib.Dec.{ltb}
@@ -53,18 +54,22 @@ module _ (g : Log) (fm : Formula) (t : Thread) (n : ℕ) where
               ∙ ap (λ b. Runs.begun (trailOf t) && Runs.passesOver (machine g fm) b (Runs.firing (machine g fm) (thread g fm t) n 0 8)) (sym e);
         }
 
-    pub quiet-choice : committed fm (conf g fm t) ≡ true → Lowest g fm (conf g fm t) n 8
-        → Chosen g fm t n (record { from = 8; to = 8; stays = ltb 0 (t .steps) })
+    -- none of its steps fires
+    pub quiet-choice : ((k : ℕ) → k < 8 → fireAt g fm (conf g fm t) n k ≡ none) → Chosen g fm t n (record { from = 8; to = 8; stays = ltb 0 (t .steps) })
     unfolding Runs.stays Runs.firing
-    quiet-choice e low =
+    quiet-choice quiet =
         record {
-          moves-are = moves-quiet (machine g fm) n (thread g fm t) (low .quiet);
+          moves-are = moves-quiet (machine g fm) n (thread g fm t) quiet;
           stays-is =
               begun-steps g fm t h ∙ sym (and-true (Runs.begun (trailOf t)))
-              ∙ ap (λ l. Runs.begun (trailOf t) && Runs.passesOver (machine g fm) true l)
-              (sym (firing-quiet (machine g fm) (thread g fm t) n 0 8 (λ j p l. low .quiet j l)))
-              ∙ ap (λ b. Runs.begun (trailOf t) && Runs.passesOver (machine g fm) b (Runs.firing (machine g fm) (thread g fm t) n 0 8)) (sym e);
+              ∙ ap (λ b. Runs.begun (trailOf t) && b) (sym (passes (committed fm (conf g fm t))))
+              ∙ ap (λ l. Runs.begun (trailOf t) && Runs.passesOver (machine g fm) (committed fm (conf g fm t)) l)
+              (sym (firing-quiet (machine g fm) (thread g fm t) n 0 8 (λ j p l. quiet j l)));
         }
+      where
+        passes : (b : Bool) → Runs.passesOver (machine g fm) b [] ≡ true
+        passes true = refl
+        passes false = refl
 
     pub lowest-choice : (k : ℕ) → committed fm (conf g fm t) ≡ true → k < 8 → Lowest g fm (conf g fm t) n k
         → Chosen g fm t n (record { from = k; to = k + 1; stays = false })

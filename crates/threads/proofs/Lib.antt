@@ -13,3 +13,5 @@ pub mod Same
 pub mod Inserting
 pub mod Endings
 pub mod Waiting
+pub mod Sifting
+pub mod Lasting

@@ -2,11 +2,13 @@
 -- or is expired after it, in any configuration.
 use Prim.Native.Nat.{ℕ, zero, suc, _+_, _*_, _<_, _≤_}
 use mathlib.Core.Path.{_≡_, refl, sym, subst, _∙_}
-use mathlib.Core.Bool.{Bool, false, not, _&&_, _||_, and-false, or-true, true≢false}
+use mathlib.Core.Bool.{Bool, true, false, not, _&&_, _||_, and-false, or-true, true≢false}
 use mathlib.Core.List.{List}
+use mathlib.Core.Logic.{_⊎_, inl, inr}
 use mathlib.Core.Option.{Option, none, some}
+use native.Mathlib.Nat.{eq-or-lt-of-le}
 use native.Mathlib.Omega.{arith}
-use lib.ListN.{length, drop}
+use lib.ListN.{length, getD, drop}
 use lib.Seq.{getD-drop}
 use Rattle.event_log.specs.Log.{Log}
 use Rattle.event_log.specs.Arrays.{inEvent, inLatest}
@@ -41,6 +43,16 @@ alive-same : (p q : ℕ → Bool) (m : ℕ) → m ≤ 8 → ((j : ℕ) → j < 8
 unfolding aliveBelow
 alive-same p q zero l h = refl
 alive-same p q (suc m) l h = rw (h m (omega arith), alive-same p q m (omega arith) h)
+
+-- one that is not expired is enough
+alive-at : (p : ℕ → Bool) (n k : ℕ) → k < n → p k ≡ false → aliveBelow p n ≡ true
+unfolding aliveBelow
+alive-at p zero k h e = absurd (omega arith)
+alive-at p (suc n) k h e = go (eq-or-lt-of-le (omega arith)) (alive-at p n k)
+  where
+    go : (k ≡ n) ⊎ (k < n) → (k < n → p k ≡ false → aliveBelow p n ≡ true) → (not (p n) || aliveBelow p n) ≡ true
+    go (inl q) ih = rw (← q, e)
+    go (inr l) ih = rw (ih l e, or-true (not (p n)))
 
 module _ (g : Log) (fm : Formula) {l places : List ℕ} (f table : List ℕ) (rules : Rules) (m : Moment) (s : Scene g fm l places f table rules m) (t : Thread)
     (w : Fit g fm t) where
@@ -122,24 +134,45 @@ module _ (g : Log) (fm : Formula) {l places : List ℕ} (f table : List ℕ) (ru
       (latest-fields g fm f (stepTable fm) rules (s .setting) m (s .loads)) (rules .rises)
       (marks g fm f (stepTable fm) rules (s .setting))
 
+  -- a state with a step that never expires keeps its threads
+  pub hopeful-lasting : getD (rules .lasting) (t .config .state) false ≡ true → true ≡ anyAlive (machine g fm) (conf g fm t) (m .number) 8
+  unfolding expiresAt
+  hopeful-lasting e =
+      let marks-then = someFresh (gathered g fm (trailOf t)) (inLatest (m .latest)) in
+      let o = s .setting .lasting-are (t .config .state) e in
+      sym (alive-at (expiresAt f (stepTable fm) (t .config) marks-then (rules .rises) (inLatest (m .latest))) 8 (o .step) (o .known)
+      (rw (o .lasts .there, o .lasts .alive marks-then (t .config) (inLatest (m .latest)))))
+      ∙ hopeful-machine g fm (length (g .fields)) f (stepTable fm) (charted g fm f (stepTable fm) rules (s .setting))
+      (gathered g fm (trailOf t)) (t .config) ready (m .number) marks-then (inLatest (m .latest))
+      (carries g fm f table rules m s t w (inLatest (m .latest)) marks-then (some-fresh (gathered g fm (trailOf t)) (inLatest (m .latest))))
+      (latest-fields g fm f (stepTable fm) rules (s .setting) m (s .loads)) (rules .rises)
+      (marks g fm f (stepTable fm) rules (s .setting))
+
   module _ (k : ℕ) (h : k < 8) where
-    -- a step that the event's table lacks does not fire
-    pub fires-none : offsetOf table (t .config .state) k ≡ 0 → fireAt g fm (conf g fm t) (m .number) k ≡ none
-    unfolding firesAt
-    fires-none z =
+    -- a step that does not fire by its bytes, whatever is new to the lists, does not fire
+    fires-silent : ((fresh : List Bool) → firesAt f table (t .config) fresh (inEvent (m .event)) k ≡ false)
+        → fireAt g fm (conf g fm t) (m .number) k ≡ none
+    fires-silent quiet =
         by (fireAt g fm (conf g fm t) (m .number) k)
-        (sym (fires-here marks-then (some-fresh (gathered g fm (trailOf t)) (inEvent (m .event))) k h) ∙ quiet)
+        (sym (fires-here marks-then (some-fresh (gathered g fm (trailOf t)) (inEvent (m .event))) k h) ∙ quiet marks-then)
       where
         marks-then : List Bool
         marks-then = someFresh (gathered g fm (trailOf t)) (inEvent (m .event))
 
-        quiet : (isStep f (offsetOf table (t .config .state) k)
-            && (fired f (offsetOf table (t .config .state) k) (t .config) marks-then (inEvent (m .event))) .fires) ≡ false
-        quiet = rw (← step-none f (offsetOf table (t .config .state) k) z)
-
         by : (o : Option Config) → isFired o ≡ false → o ≡ none
         by none q = refl
         by (some d) q = absurd (true≢false q)
+
+    -- one that the event's table lacks
+    pub fires-none : offsetOf table (t .config .state) k ≡ 0 → fireAt g fm (conf g fm t) (m .number) k ≡ none
+    unfolding firesAt
+    fires-none z = fires-silent (λ fresh. rw (← step-none f (offsetOf table (t .config .state) k) z))
+
+    -- one that what the configuration holds keeps from firing
+    pub fires-barred : (at : ℕ) → at ≡ offsetOf table (t .config .state) k
+        → ((fresh : List Bool) → (fired f at (t .config) fresh (inEvent (m .event))) .fires ≡ false) → fireAt g fm (conf g fm t) (m .number) k ≡ none
+    unfolding firesAt
+    fires-barred at e bars = fires-silent (λ fresh. rw (← e, bars fresh, and-false (isStep f at)))
 
     -- a step that fires stands there where it stands in the formula
     pub fires-stands : (d : Config) → fireAt g fm (conf g fm t) (m .number) k ≡ some d

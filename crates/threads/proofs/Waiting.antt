@@ -7,31 +7,29 @@ use mathlib.Core.List.{List, [], _∷_, _++_, map}
 use mathlib.Core.Option.{Option, none, some}
 use native.Mathlib.Omega.{arith}
 use lib.Dec.{leb}
-use lib.ListN.{length, drop, length-map}
+use lib.ListN.{length, length-map}
 use borrow.Author.Tests.{le-leb, lt-leb, leb-true, leb-false}
 use Rattle.base.specs.Lists.{All}
 use Rattle.event_log.specs.Log.{Log}
 use Rattle.formula.specs.Formula.{Formula}
-use Rattle.runs.specs.inner.Lists.{only, keep, inTurn}
+use Rattle.runs.specs.inner.Lists.{only, keep}
 use Rattle.runs.specs.inner.Search as Runs
-use Rattle.runs.specs.inner.Threads.{insert, insertWithin, candidates}
-use Rattle.runs.proofs.Growth.{keep-append, candidates-cons}
-use Rattle.runs.proofs.OneByOne.{chain, within-append, within-over, within-fits}
+use Rattle.runs.specs.inner.Threads.{insert, insertWithin, chain}
+use Rattle.runs.proofs.Growth.{keep-append}
+use Rattle.runs.proofs.OneByOne.{within-append, within-over, within-fits}
 use Rattle.runs.specs.inner.Order.{order}
 use Rattle.machine.specs.Configuration.{Config}
 use Rattle.machine.specs.Machine.{machine, fireAt, final}
 use Rattle.slots.specs.declared.Thread.{Thread}
 use Rattle.slots.specs.inner.Threads.{trailOf, comesAfter, replaced, lesserThread, placed, insertThread}
-use Rattle.slots.specs.inner.Words.{threadAt, place, list, Around, Inserted}
+use Rattle.slots.specs.inner.Words.{list, Around, Inserted}
 use Rattle.threads.specs.declared.Move.{Move}
-use Rattle.threads.specs.declared.Choice.{Choice}
 use Rattle.threads.specs.inner.Setting.{Fit, conf, thread}
 use Rattle.threads.specs.inner.Event.{waitingIn, Kept}
-use Rattle.threads.specs.inner.Calls.{Going, MovedBy, Chosen, moveBy, Grown, Within, offered, sameAs}
+use Rattle.threads.specs.inner.Calls.{Going, MovedBy, moveBy, Grown, Within, offered, sameAs}
 use Rattle.threads.proofs.Firing.{firing-next}
 use Rattle.threads.proofs.Inserting.{insert-is}
 use Rattle.threads.proofs.Steps.{trail-length}
-use Rattle.threads.proofs.Listed.{waiting-next, waiting-done}
 
 -- what holds of b and of every thread of a list holds after inserting b
 insert-all : (P : Thread → Type 0) (test : Thread → Bool) (b : Thread) (ths : List Thread) → P b → All P ths → All P (insertThread test b ths)
@@ -151,34 +149,6 @@ module _ (g : Log) (fm : Formula) where
       let none-left : s - k ≡ 0 = omega arith in
       ap (λ j. offered g fm n (Runs.firing (machine g fm) (thread g fm t) n k j)) none-left
 
-  -- its stay, then its moves
-  offers-are : (t : Thread) (n : ℕ)
-      → keep (Runs.hopeful (machine g fm) n) (Runs.offers (machine g fm) n (thread g fm t))
-      ≡ keep (Runs.hopeful (machine g fm) n) (only (Runs.stays (machine g fm) n (thread g fm t)) (thread g fm t) [])
-      ++ offered g fm n (Runs.moves (machine g fm) n (thread g fm t))
-  unfolding Runs.offers
-  offers-are t n =
-      ap (keep (Runs.hopeful (machine g fm) n)) (by (Runs.stays (machine g fm) n (thread g fm t)))
-      ∙ keep-append (Runs.hopeful (machine g fm) n) (only (Runs.stays (machine g fm) n (thread g fm t)) (thread g fm t) [])
-      (keep (Runs.unended (machine g fm)) (Runs.moves (machine g fm) n (thread g fm t)))
-    where
-      by : (b : Bool)
-          → only b (thread g fm t) (keep (Runs.unended (machine g fm)) (Runs.moves (machine g fm) n (thread g fm t))) ≡ only b (thread g fm t) []
-          ++ keep (Runs.unended (machine g fm)) (Runs.moves (machine g fm) n (thread g fm t))
-      by true = refl
-      by false = refl
-
-  -- the same, with its moves and its stay as the choice has them
-  pub offers-parts : (t : Thread) (n : ℕ) (r : Choice) → Chosen g fm t n r
-      → keep (Runs.hopeful (machine g fm) n) (Runs.offers (machine g fm) n (thread g fm t))
-      ≡ keep (Runs.hopeful (machine g fm) n) (only (r .stays) (thread g fm t) [])
-      ++ offered g fm n (Runs.firing (machine g fm) (thread g fm t) n (r .from) (r .to - r .from))
-  offers-parts t n r c =
-      offers-are t n
-      ∙ ap (λ b. keep (Runs.hopeful (machine g fm) n) (only b (thread g fm t) []) ++ offered g fm n (Runs.moves (machine g fm) n (thread g fm t)))
-      (sym (c .stays-is))
-      ∙ ap (λ l. keep (Runs.hopeful (machine g fm) n) (only (r .stays) (thread g fm t) []) ++ offered g fm n l) (c .moves-are)
-
 module _ (g : Log) (fm : Formula) (half slots : ℕ) where
   -- ---- inserting
 
@@ -232,7 +202,7 @@ module _ (g : Log) (fm : Formula) (half slots : ℕ) where
   left-none whole bs after r e l h = left-last whole bs after after r r h (within-none r after bs e l (h .kept))
 
   -- one thread was inserted
-  within-one : (count : ℕ) (b : Thread) (before after : List ℕ) (r : ℕ) → count ≤ slots → Kept g fm half count before → Going g fm b
+  pub within-one : (count : ℕ) (b : Thread) (before after : List ℕ) (r : ℕ) → count ≤ slots → Kept g fm half count before → Going g fm b
       → Around half count before after r → Inserted (sameAs g fm b) half count slots b before after r
       → Within g fm half slots (waitingIn g fm half count before) (thread g fm b ∷ []) after r
   unfolding insertWithin
@@ -280,16 +250,3 @@ module _ (g : Log) (fm : Formula) (half slots : ℕ) where
     unfolding keep Runs.hopeful
     wait-out e =
         subst (λ z. Within g fm half slots (waitingIn g fm half count before) (only z (thread g fm b) []) before count) e (within-none count before [] refl h k)
-
--- what the j-th thread offers, then what those behind it offer
-pub candidates-next : (g : Log) (fm : Formula) (n half count : ℕ) (l : List ℕ) (j : ℕ) (t : Thread) → j < count → t ≡ threadAt l (place half j)
-    → candidates (machine g fm) n (drop j (waitingIn g fm half count l)) ≡ keep (Runs.hopeful (machine g fm) n) (Runs.offers (machine g fm) n (thread g fm t))
-    ++ candidates (machine g fm) n (drop (j + 1) (waitingIn g fm half count l))
-candidates-next g fm n half count l j t h e =
-    ap (candidates (machine g fm) n) (waiting-next g fm half count l j t h e)
-    ∙ candidates-cons (machine g fm) n (thread g fm t) (drop (j + 1) (waitingIn g fm half count l))
-
-pub candidates-none : (g : Log) (fm : Formula) (n half count : ℕ) (l : List ℕ) (j : ℕ) → count ≤ j
-    → candidates (machine g fm) n (drop j (waitingIn g fm half count l)) ≡ []
-unfolding candidates Runs.next inTurn keep
-candidates-none g fm n half count l j h = ap (candidates (machine g fm) n) (waiting-done g fm half count l j h)

@@ -8,18 +8,21 @@ use event_log::Event;
 use event_log::Latest;
 use slots::Thread;
 ghost use mathlib.Core.Path.{_≡_};
-ghost use Prim.Native.Nat.{_+_, _≤_, _<_};
+ghost use mathlib.Core.Bool.{false};
+ghost use Prim.Native.Nat.{_+_, _*_, _≤_, _<_};
 ghost use lib.Dec.{leb, eqb};
 ghost use lib.ListN.{length, getD};
-ghost use Rattle.threads.specs.inner.Event.{Seated, EndingIs, AdvancedIs};
-ghost use Rattle.threads.specs.inner.Calls.{MovedIs, ChoiceIs, BetterIs, EndedIs, WaitsIs, OfferIs, OfferMoveIs, OfferMovesIs, StayIs, OfferAllIs};
+ghost use Rattle.threads.specs.inner.Event.{Seated, EndingIs, SettledIs};
+ghost use Rattle.threads.specs.inner.Calls.{MovedIs, ChoiceIs, BetterIs, EndedIs, WaitsIs, OfferIs, OfferMoveIs, OfferMovesIs, RemainIs, IdlesIs, SiftOneIs, SiftIs, MergeIs};
+ghost use Rattle.slots.specs.inner.Words.{threadAt, place};
 
 // What stays from event to event: the kind of each state (0 ordinary, 1 committed, 2 accept, 3 reject), which fields
-// rise, and how many fields the log has.
+// rise, how many fields the log has, and states some step of which never expires.
 pub struct Rules {
     pub kinds: [u32; 16],
     pub rises: [bool; 8],
     pub fields: usize,
+    pub lasting: [bool; 16],
 }
 
 // An event with its number, and the values by which steps are judged expired after it.
@@ -55,6 +58,12 @@ struct Choice {
     stays: bool,
 }
 
+// How many threads of a waiting list stay on the event, and how many threads their moves leave.
+struct Sifted {
+    stayed: usize,
+    moved: usize,
+}
+
 // The kind of a state.
 fn kind_of(rules: Rules, state: u32) -> u32
     ensures { λ r. ⌜ r ≡ getD (rules .kinds) state 0 ⌝ }
@@ -80,6 +89,17 @@ fn is_committed(rules: Rules, state: u32) -> bool
 {
     let kind = kind_of(rules, state);
     kind == 1
+}
+
+// Whether a state is marked as one some step of which never expires.
+fn is_lasting(rules: Rules, state: u32) -> bool
+    ensures { λ r. ⌜ r ≡ getD (rules .lasting) state false ⌝ }
+{
+    let at = state as usize;
+    if at < 16 {
+        return rules.lasting[at];
+    }
+    false
 }
 
 // Step k of a thread's state on the event: whether it fires, and the thread with that step taken.
@@ -209,6 +229,31 @@ fn ending_of(
     least
 }
 
+// The least of the best so far and of the runs that end on the event by a step of a slot's thread. A thread none of whose steps the
+// event lets fire is not loaded.
+fn ending_at(
+    best: Best,
+    work: &[u32],
+    seats: Seats,
+    l: &[u8],
+    places: &[usize],
+    f: &[u8],
+    table: &[usize],
+    rules: Rules,
+    moment: Moment,
+    j: usize,
+) -> Best
+    requires { ⌜ Seated seats (now work) × (moment .number < 1024) × (j < seats .count) ⌝ }
+    ensures { λ r. ⌜ EndedIs (now (l .entry)) (now (places .entry)) (now (f .entry)) (now (table .entry)) rules moment best (threadAt (now (work .entry)) (place (seats .half) j)) r ⌝ }
+{
+    let s = slots::state_at(work, j, seats.half);
+    if table::is_quiet(table, s) {
+        return best;
+    }
+    let t = slots::load_slot(work, j, seats.half);
+    ending_of(best, l, places, f, table, rules, moment, t)
+}
+
 // The least run that ends on the event, of the threads that wait.
 pub fn ending(
     work: &[u32],
@@ -229,8 +274,7 @@ pub fn ending(
     };
     let mut j: usize = 0;
     while j < seats.count {
-        let t = slots::load_slot(work, j, seats.half);
-        best = ending_of(best, l, places, f, table, rules, moment, t);
+        best = ending_at(best, work, seats, l, places, f, table, rules, moment, j);
         j += 1;
     }
     best
@@ -342,8 +386,9 @@ fn offer_moves(
     count
 }
 
-// Inserts a thread as it stands, if it may stay and some step of its state is not expired.
-fn stay(
+// Keeps the thread of slot j at the end of a list in its half, which ends before it, if it may stay and some step of its state is not
+// expired. The count of the list then.
+fn remain(
     work: &mut [u32],
     seats: Seats,
     l: &[u8],
@@ -354,58 +399,39 @@ fn stay(
     moment: Moment,
     t: Thread,
     stays: bool,
+    j: usize,
 ) -> usize
-    requires { ⌜ Seated seats (now work) ⌝ }
-    ensures { λ r. ⌜ StayIs (now (l .entry)) (now (places .entry)) (now (f .entry)) (now (table .entry)) rules moment seats t stays (now (work .entry)) (now (work .exit)) r ⌝ }
+    requires { ⌜ Seated seats (now work) × (seats .count ≤ j) × (j < seats .slots) × (t ≡ threadAt (now work) (place (seats .half) j)) ⌝ }
+    ensures { λ r. ⌜ RemainIs (now (l .entry)) (now (places .entry)) (now (f .entry)) (now (table .entry)) rules moment seats t stays j (now (work .entry)) (now (work .exit)) r ⌝ }
 {
     if stays {
-        return wait(work, seats, l, places, f, table, rules, moment, t);
+        if step::hopeful_at(l, places, f, table, rules, moment, t) {
+            slots::keep_slot(work, seats.half, seats.count, j, t);
+            return seats.count + 1;
+        }
     }
     seats.count
 }
 
-// Offers what a thread leaves on the event: its stay, then its moves by rising step number.
-fn offer_all(
-    work: &mut [u32],
-    seats: Seats,
-    l: &[u8],
-    places: &[usize],
-    f: &[u8],
-    table: &[usize],
-    rules: Rules,
-    moment: Moment,
-    t: Thread,
-) -> usize
-    requires { ⌜ Seated seats (now work) × (moment .number < 1024) ⌝ }
-    ensures { λ r. ⌜ OfferAllIs (now (l .entry)) (now (places .entry)) (now (f .entry)) (now (table .entry)) rules moment seats t (now (work .entry)) (now (work .exit)) r ⌝ }
+// Whether the thread of a slot can do nothing on the event but wait, as its state and its number of steps say. For speed alone: a
+// function that never says so would meet the contract.
+fn idles(work: &[u32], slot: usize, half: usize, table: &[usize], rules: Rules) -> bool
+    requires { ⌜ (slot * 192 + 192 ≤ length (now work)) × (half < 2) ⌝ }
+    ensures { λ r. ⌜ IdlesIs (now (table .entry)) rules (threadAt (now (work .entry)) (place half slot)) r ⌝ }
 {
-    let choice = choice_of(l, places, f, table, rules, moment, t);
-    let count = stay(
-        work,
-        seats,
-        l,
-        places,
-        f,
-        table,
-        rules,
-        moment,
-        t,
-        choice.stays,
-    );
-    if seats.slots < count {
-        return count;
+    if slots::steps_at(work, slot, half) == 0 {
+        return false;
     }
-    let grown = Seats {
-        half: seats.half,
-        count,
-        slots: seats.slots,
-    };
-    offer_moves(work, grown, l, places, f, table, rules, moment, t, choice)
+    let s = slots::state_at(work, slot, half);
+    if is_lasting(rules, s) {
+        return table::is_quiet(table, s);
+    }
+    false
 }
 
-// Builds the waiting list after the event in the other half, from the threads that waited before it; it stops where one more
-// slot is needed. The count of that list, one more than the slots where it stopped.
-pub fn advance(
+// Sifts the thread of slot j: if it stays it becomes the last of those that do, in the front of the half; what its moves leave that may
+// wait is inserted into the list in the other half. A thread that idles, with none dropped before it, is not loaded.
+fn sift_one(
     work: &mut [u32],
     seats: Seats,
     l: &[u8],
@@ -414,26 +440,131 @@ pub fn advance(
     table: &[usize],
     rules: Rules,
     moment: Moment,
-) -> usize
-    requires { ⌜ Seated seats (now work) × (moment .number < 1024) ⌝ }
-    ensures { λ r. ⌜ AdvancedIs (now (l .entry)) (now (places .entry)) (now (f .entry)) (now (table .entry)) rules moment seats (now (work .entry)) (now (work .exit)) r ⌝ }
-    ensures { λ r. ⌜ (r ≤ seats .slots + 1) × (length (now (work .exit)) ≡ length (now (work .entry))) ⌝ }
+    done: Sifted,
+    j: usize,
+) -> Sifted
+    requires { ⌜ Seated seats (now work) × (moment .number < 1024) × (done .stayed ≤ j) × (done .moved ≤ seats .slots) × (j < seats .count) ⌝ }
+    ensures { λ r. ⌜ SiftOneIs (now (l .entry)) (now (places .entry)) (now (f .entry)) (now (table .entry)) rules moment seats done j (now (work .entry)) (now (work .exit)) r ⌝ }
 {
-    let other = 1 - seats.half;
-    let mut count: usize = 0;
+    if done.stayed == j {
+        if idles(&work[..], j, seats.half, table, rules) {
+            return Sifted {
+                stayed: done.stayed + 1,
+                moved: done.moved,
+            };
+        }
+    }
+    let t = slots::load_slot(&work[..], j, seats.half);
+    let choice = choice_of(l, places, f, table, rules, moment, t);
+    let next = Seats {
+        half: 1 - seats.half,
+        count: done.moved,
+        slots: seats.slots,
+    };
+    let moved = offer_moves(work, next, l, places, f, table, rules, moment, t, choice);
+    if seats.slots < moved {
+        return Sifted {
+            stayed: done.stayed,
+            moved,
+        };
+    }
+    let kept = Seats {
+        half: seats.half,
+        count: done.stayed,
+        slots: seats.slots,
+    };
+    let stays = choice.stays;
+    let stayed = remain(work, kept, l, places, f, table, rules, moment, t, stays, j);
+    Sifted { stayed, moved }
+}
+
+// Sifts a waiting list on the event, thread by thread; it stops where what moved needs one more slot.
+fn sift(
+    work: &mut [u32],
+    seats: Seats,
+    l: &[u8],
+    places: &[usize],
+    f: &[u8],
+    table: &[usize],
+    rules: Rules,
+    moment: Moment,
+) -> Sifted
+    requires { ⌜ Seated seats (now work) × (moment .number < 1024) ⌝ }
+    ensures { λ r. ⌜ SiftIs (now (l .entry)) (now (places .entry)) (now (f .entry)) (now (table .entry)) rules moment seats (now (work .entry)) (now (work .exit)) r ⌝ }
+{
+    let mut sifted = Sifted {
+        stayed: 0,
+        moved: 0,
+    };
     let mut j: usize = 0;
     while j < seats.count {
-        let t = slots::load_slot(&work[..], j, seats.half);
-        let next = Seats {
-            half: other,
-            count,
-            slots: seats.slots,
-        };
-        count = offer_all(work, next, l, places, f, table, rules, moment, t);
-        if seats.slots < count {
-            return count;
+        sifted = sift_one(work, seats, l, places, f, table, rules, moment, sifted, j);
+        if seats.slots < sifted.moved {
+            return sifted;
         }
         j += 1;
     }
+    sifted
+}
+
+// Inserts the threads of the other half into the list of one half, one by one; it stops where one more slot is needed. The count of the
+// list then, one more than the slots where it stopped.
+fn merge(
+    work: &mut [u32],
+    seats: Seats,
+    more: usize,
+    l: &[u8],
+    places: &[usize],
+    f: &[u8],
+    table: &[usize],
+    rules: Rules,
+) -> usize
+    requires { ⌜ Seated seats (now work) × (more ≤ seats .slots) ⌝ }
+    ensures { λ r. ⌜ MergeIs (now (l .entry)) (now (places .entry)) (now (f .entry)) (now (table .entry)) rules seats more (now (work .entry)) (now (work .exit)) r ⌝ }
+{
+    let other = 1 - seats.half;
+    let mut count = seats.count;
+    let mut i: usize = 0;
+    while i < more {
+        let b = slots::load_slot(&work[..], i, other);
+        let grown = Seats {
+            half: seats.half,
+            count,
+            slots: seats.slots,
+        };
+        count = insertion::insert(work, grown, l, places, f, table, rules, b);
+        if seats.slots < count {
+            return count;
+        }
+        i += 1;
+    }
     count
+}
+
+// The waiting list after the event, in the half of the one before it: threads that stay are distinct, so only what moved is inserted.
+// Its count, one more than the slots where it needs more.
+pub fn settle(
+    work: &mut [u32],
+    seats: Seats,
+    l: &[u8],
+    places: &[usize],
+    f: &[u8],
+    table: &[usize],
+    rules: Rules,
+    moment: Moment,
+) -> usize
+    requires { ⌜ Seated seats (now work) × (moment .number < 1024) ⌝ }
+    ensures { λ r. ⌜ SettledIs (now (l .entry)) (now (places .entry)) (now (f .entry)) (now (table .entry)) rules moment seats (now (work .entry)) (now (work .exit)) r ⌝ }
+    ensures { λ r. ⌜ (r ≤ seats .slots + 1) × (length (now (work .exit)) ≡ length (now (work .entry))) ⌝ }
+{
+    let sifted = sift(work, seats, l, places, f, table, rules, moment);
+    if seats.slots < sifted.moved {
+        return sifted.moved;
+    }
+    let kept = Seats {
+        half: seats.half,
+        count: sifted.stayed,
+        slots: seats.slots,
+    };
+    merge(work, kept, sifted.moved, l, places, f, table, rules)
 }

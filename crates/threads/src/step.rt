@@ -40,6 +40,15 @@ pub fn fires_at(
     }
     let event = moment.event;
     let values = event.values;
+    let there = event.present;
+    let held = before.held;
+    let prior = before.values;
+    if machine_code::marks::bars(f, at, &held, &prior, &values, &there) {
+        return Move {
+            fires: false,
+            thread: t,
+        };
+    }
     let tallies = before.tallies;
     let trail = t.trail;
     let fresh = fresh_at(l, places, f, table, rules, tallies, trail, t.steps, values);
@@ -94,6 +103,9 @@ pub fn hopeful_at(
         return false;
     }
     let config = t.config;
+    if crate::is_lasting(rules, config.state) {
+        return true;
+    }
     let rises = rules.rises;
     let latest = moment.latest;
     let values = latest.values;

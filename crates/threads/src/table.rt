@@ -5,10 +5,10 @@ use crate::Moment;
 use crate::Seats;
 ghost use mathlib.Core.Path.{_≡_};
 ghost use mathlib.Core.Bool.{true, cond};
-ghost use Prim.Native.Nat.{_<_};
+ghost use Prim.Native.Nat.{_/_, _<_};
 ghost use lib.ListN.{length};
 ghost use Rattle.threads.specs.inner.Event.{Seated};
-ghost use Rattle.threads.specs.inner.Setting.{Wide, MarkedIs};
+ghost use Rattle.threads.specs.inner.Setting.{Wide, MarkedIs, LastsAt, MarkLastingIs, LastingIs, QuietIs};
 
 // The three parts, before an event says anything.
 pub fn widened(steps: &[usize; 128]) -> [usize; 384]
@@ -23,6 +23,60 @@ pub fn widened(steps: &[usize; 128]) -> [usize; 384]
         i += 1;
     }
     table
+}
+
+// Whether the step at an offset is there and never expires.
+fn lasts_at(f: &[u8], at: usize, rises: &[bool; 8]) -> bool
+    ensures { λ r. ⌜ LastsAt (now (f .entry)) at (now (rises .entry)) r ⌝ }
+{
+    if at == 0 {
+        return false;
+    }
+    if f.len() <= at {
+        return false;
+    }
+    machine_code::marks::lasts(f, at, rises)
+}
+
+// The states marked so far, and that of the step with index i, at an offset, if it never expires.
+fn mark_lasting(states: [bool; 16], i: usize, f: &[u8], at: usize, rises: &[bool; 8]) -> [bool; 16]
+    requires { ⌜ i < 128 ⌝ }
+    ensures { λ r. ⌜ MarkLastingIs (now (f .entry)) at (now (rises .entry)) (i / 8) states r ⌝ }
+{
+    if lasts_at(f, at, rises) {
+        let mut more = states;
+        more[i / 8] = true;
+        return more;
+    }
+    states
+}
+
+// States some step of which never expires, by the table of steps. For speed alone: a function that marks none would meet the contract.
+pub fn lasting(f: &[u8], steps: &[usize; 128], rises: &[bool; 8]) -> [bool; 16]
+    ensures { λ r. ⌜ LastingIs (now (f .entry)) (now (steps .entry)) (now (rises .entry)) r ⌝ }
+{
+    let mut states = [false; 16];
+    let mut k: usize = 0;
+    while k < 128 {
+        let more = mark_lasting(states, k, f, steps[k], rises);
+        states = more;
+        k += 1;
+    }
+    states
+}
+
+// Whether the event's table has no step of a state.
+pub fn is_quiet(table: &[usize], s: u32) -> bool
+    ensures { λ r. ⌜ QuietIs (now (table .entry)) s r ⌝ }
+{
+    let mut k: usize = 0;
+    while k < 8 {
+        if machine_code::steps::step_offset(table, s, k) != 0 {
+            return false;
+        }
+        k += 1;
+    }
+    true
 }
 
 // An offset, or 0.

@@ -32,6 +32,9 @@ returns-2 c =
 held-in-requires : tie.Need-held-in-requires
 held-in-requires c κs = search needs
 
+lasting-of-requires : tie.Need-lasting-of-requires
+lasting-of-requires c κs = search needs
+
 slots-of-requires : tie.Need-slots-of-requires
 slots-of-requires c κs = search needs
 
@@ -45,11 +48,11 @@ all-starts-requires : tie.Need-all-starts-requires
 all-starts-requires c κs =
     let c4 = c .before .before .before .before in
     let c5 = c4 .before in
-    let c10 = c5 .before .before .before .before .before in
-    let c13 = c10 .before .before .before in
-    let c18 = c13 .before .before .before .before .before in
-    let s = slots-fit (length (now (c18 .args .work))) (c13 .if1 .left) in
-    rw (c4 .scope-of .ensures, c5 .slots-of .ensures) (s .0, s .1, c18 .pre, c10 .if2 .left, places-1024 c18)
+    let c11 = c5 .before .before .before .before .before .before in
+    let c14 = c11 .before .before .before in
+    let c19 = c14 .before .before .before .before .before in
+    let s = slots-fit (length (now (c19 .args .work))) (c14 .if1 .left) in
+    rw (c4 .scope-of .ensures, c5 .slots-of .ensures) (s .0, s .1, c19 .pre, c11 .if2 .left, places-1024 c19)
 
 same-length : tie.Need-same-length
 same-length c = search needs
@@ -65,16 +68,18 @@ returns-3 c =
     let c9 = c4 .before .before .before .before .before in
     let c10 = c9 .before in
     let c11 = c10 .before in
-    let c15 = c11 .before .before .before .before in
-    let c18 = c15 .before .before .before in
-    let c23 = c18 .before .before .before .before .before in
-    let a = c23 .args in
+    let c12 = c11 .before in
+    let c16 = c12 .before .before .before .before in
+    let c19 = c16 .before .before .before in
+    let c24 = c19 .before .before .before .before .before in
+    let a = c24 .args in
     let n = c10 .slots-of in
+    let k = c11 .lasting-of in
     let all = rw (c9 .scope-of .ensures) at (c4 .all-starts .ensures) in
     λ t fm x. enough (logOf t) fm (now (a .work)) (now (a .rows)) (a .files .log .events) (n .result) _ _ _ (ap (λ (y : LogReading). y .events) (x .log-read))
-    (c18 .if1 .left) (c15 .if2 .left) (n .ensures) (c3 .work .given)
-    (all (logOf t) fm (handed t fm (now (a .l)) (now (a .f)) (a .files .log) (a .files .formula) (n .result) x)
-    (mask-ties t fm (now (a .l)) (now (a .f)) (a .files .log) (a .files .formula) (c11 .held-in .result) x (c11 .held-in .ensures)))
+    (c19 .if1 .left) (c16 .if2 .left) (n .ensures) (c3 .work .given)
+    (all (logOf t) fm (handed t fm (now (a .l)) (now (a .f)) (a .files .log) (a .files .formula) (k .result) (n .result) (k .ensures) x)
+    (mask-ties t fm (now (a .l)) (now (a .f)) (a .files .log) (a .files .formula) (c12 .held-in .result) x (c12 .held-in .ensures)))
 
 pub checked-spec : {M : Type 1} → statement M
 checked-spec =
@@ -84,6 +89,7 @@ checked-spec =
     mul-needed
     returns-2
     held-in-requires
+    lasting-of-requires
     slots-of-requires
     scope-of-requires
     all-starts-requires

@@ -33,6 +33,9 @@ returns-2 c =
       (refl, rw (c .refused2 .ensures) (omega arith)),
     )
 
+lasting-of-requires : tie.Need-lasting-of-requires
+lasting-of-requires c κs = search needs
+
 slots-of-requires : tie.Need-slots-of-requires
 slots-of-requires c κs = search needs
 
@@ -44,27 +47,27 @@ places-1024 c = search needs
 
 seen-before-requires : tie.Need-seen-before-requires
 seen-before-requires c κs =
-    let c7 = c .before .before .before .before .before .before .before in
-    let c13 = c7 .before .before .before .before .before .before in
-    (omega (arith, c7 .if1 .left, c13 .pre), places-1024 c13)
+    let c8 = c .before .before .before .before .before .before .before .before in
+    let c14 = c8 .before .before .before .before .before .before in
+    (omega (arith, c8 .if1 .left, c14 .pre), places-1024 c14)
 
 stretch-end-requires : tie.Need-stretch-end-requires
 stretch-end-requires c κs =
     let c3 = c .before .before .before in
-    let c9 = c3 .before .before .before .before .before .before in
-    let c15 = c9 .before .before .before .before .before .before in
-    rw (c3 .scope-of .ensures) (omega (arith, c9 .if1 .left), c15 .pre, places-1024 c15)
+    let c10 = c3 .before .before .before .before .before .before .before in
+    let c16 = c10 .before .before .before .before .before .before in
+    rw (c3 .scope-of .ensures) (omega (arith, c10 .if1 .left), c16 .pre, places-1024 c16)
 
 search-from-requires : tie.Need-search-from-requires
 search-from-requires c κs =
     let c7 = c .before .before .before .before .before .before .before in
     let c8 = c7 .before in
-    let c12 = c8 .before .before .before .before in
-    let c19 = c12 .before .before .before .before .before .before .before in
-    let k = slots-fit (length (now (c19 .args .work))) (c12 .if2 .left) in
+    let c13 = c8 .before .before .before .before .before in
+    let c20 = c13 .before .before .before .before .before .before .before in
+    let k = slots-fit (length (now (c20 .args .work))) (c13 .if2 .left) in
     let end = c .before .before .before .stretch-end in
     let events = ap (λ (x : Scope). x .events) (c7 .scope-of .ensures) in
-    rw (c7 .scope-of .ensures, c8 .slots-of .ensures) (k .0, k .1, omega (arith, end .ensures .1, events, c19 .pre), places-1024 c19)
+    rw (c7 .scope-of .ensures, c8 .slots-of .ensures) (k .0, k .1, omega (arith, end .ensures .1, events, c20 .pre), places-1024 c20)
 
 same-length : tie.Need-same-length
 same-length c = search needs
@@ -75,18 +78,20 @@ returns-3 c =
     let c8 = c6 .before .before in
     let c10 = c8 .before .before in
     let c11 = c10 .before in
-    let c15 = c11 .before .before .before .before in
-    let c16 = c15 .before in
-    let a = c16 .before .before .before .before .before .before .args in
+    let c12 = c11 .before in
+    let c16 = c12 .before .before .before .before in
+    let c17 = c16 .before in
+    let a = c17 .before .before .before .before .before .before .args in
     let n = c11 .slots-of in
+    let k = c12 .lasting-of in
     let s = c10 .scope-of in
     let x = c8 .seen-before in
     let e = c6 .stretch-end in
     let r = c .before .before .search-from in
-    let told : Told (now (a .l)) (a .files .log .places) (scopeOf (a .files .log) (a .files .formula) (n .result)) (a .start) (e .result) (x .result) =
-    record { there = c16 .if1 .left; end-is = rw (s .ensures) at (e .ensures .0); seen-is = rw (s .ensures) at (x .ensures) } in (
-      searched (now (a .l)) (now (a .f)) (a .files) (a .start) (now (a .work)) (n .result) (e .result) _ (x .result) (r .result) (c15 .if2 .left)
-          (n .ensures) told (rw (s .ensures) at (r .ensures .0)),
+    let told : Told (now (a .l)) (a .files .log .places) (scopeOf (a .files .log) (a .files .formula) (k .result) (n .result)) (a .start) (e .result) (x .result) =
+    record { there = c17 .if1 .left; end-is = rw (s .ensures) at (e .ensures .0); seen-is = rw (s .ensures) at (x .ensures) } in (
+      searched (now (a .l)) (now (a .f)) (a .files) (a .start) (now (a .work)) (k .result) (n .result) (e .result) _ (x .result) (r .result) (c16 .if2 .left)
+          (n .ensures) (k .ensures) told (rw (s .ensures) at (r .ensures .0)),
       (r .ensures .1 .1, rw (← n .ensures) (rw (s .ensures) at (r .ensures .1 .0))),
     )
 
@@ -98,6 +103,7 @@ checked-spec =
     returns
     refused-requires-2
     returns-2
+    lasting-of-requires
     slots-of-requires
     scope-of-requires
     seen-before-requires

@@ -22,8 +22,8 @@ returns c =
       (tt, refl),
     )
 
-advance-requires : tie.Need-advance-requires
-advance-requires c κs = search needs
+settle-requires : tie.Need-settle-requires
+settle-requires c κs = search needs
 
 same-length-2 : tie.Need-same-length-2
 same-length-2 c = search needs
@@ -36,7 +36,7 @@ returns-2 c =
     let c15 = c8 .before .before .before .before .before .before .before in
     let a = c15 .args in
     let b = c8 .ending in
-    let x = c4 .advance in
+    let x = c4 .settle in
     let turn = crowded-turn (now (a .l)) (now (a .places)) (now (a .f)) (now (a .table)) (a .rules) (a .moment) (a .seats) (now (a .work)) (x .last .0)
     (b .result) (b .ensures) in
     (turn (x .result) (c6 .if1 .left) (x .ensures .0) (c .if2 .taken), (tt, x .ensures .1 .1))
@@ -52,7 +52,7 @@ returns-3 c =
     let c15 = c8 .before .before .before .before .before .before .before in
     let a = c15 .args in
     let b = c8 .ending in
-    let x = c4 .advance in
+    let x = c4 .settle in
     let turn = next-turn (now (a .l)) (now (a .places)) (now (a .f)) (now (a .table)) (a .rules) (a .moment) (a .seats) (now (a .work)) (x .last .0)
     (b .result) (b .ensures) in
     (turn (x .result) (c6 .if1 .left) (x .ensures .0) (c .if2 .left), (c .if2 .left, x .ensures .1 .1))
@@ -64,7 +64,7 @@ one-event-spec =
     ending-requires
     same-length
     returns
-    advance-requires
+    settle-requires
     same-length-2
     returns-2
     same-length-3

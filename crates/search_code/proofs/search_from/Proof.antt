@@ -13,12 +13,12 @@ use Rattle.search_code.proofs.search_from.Statement.{statement}
 use Rattle.search_code.proofs.search_from.Tie as tie
 
 abbrev Inv-loop : tie.InvT-loop
-Inv-loop l places f table scope start end work₀ wide rules half₀ count₀ width₀ seen₀ n₀ work half count width seen n =
-    (half < 2) × (count ≤ scope .slots) × (width ≤ scope .slots) × (length work ≡ length work₀)
-    × Searching l places f table scope start end seen₀ n half count width work seen
+Inv-loop l places f table scope start end work₀ wide rules count₀ width₀ seen₀ n₀ work count width seen n =
+    (count ≤ scope .slots) × (width ≤ scope .slots) × (length work ≡ length work₀)
+    × Searching l places f table scope start end seen₀ n 0 count width work seen
 
 abbrev μ-loop : tie.MeasureT-loop
-μ-loop l places f table scope start end work₀ wide rules half₀ count₀ width₀ seen₀ n₀ work half count width seen n = end - n
+μ-loop l places f table scope start end work₀ wide rules count₀ width₀ seen₀ n₀ work count width seen n = end - n
 
 origin-in-requires : tie.Need-origin-in-requires Inv-loop μ-loop
 origin-in-requires c κs =
@@ -34,7 +34,6 @@ loop-holds c =
     let c9 = c4 .before .before .before .before .before in
     let a = c9 .args in
     let o = c4 .origin-in in (
-      omega arith,
       omega (arith, c9 .pre),
       omega arith,
       refl,
@@ -64,8 +63,8 @@ at-event-requires c κs =
     let c15 = c10 .before .before .before .before .before in
     let c20 = c15 .before .before .before .before .before in
     let i = c10 .loop in
-    let k : length (i .work) ≡ length (now (c20 .args .work)) = i .inv .3 ∙ c15 .origin-in .ensures .1 in (
-      (omega (arith, k, c20 .pre), i .inv .0, i .inv .1),
+    let k : length (i .work) ≡ length (now (c20 .args .work)) = i .inv .2 ∙ c15 .origin-in .ensures .1 in (
+      (omega (arith, k, c20 .pre), omega arith, i .inv .0),
       omega (arith, ap (λ (m : Moment). m .number) (c4 .moment-of .ensures), c8 .loop-test .taken, c20 .pre),
       search needs,
     )
@@ -81,7 +80,7 @@ same-length c =
     let c5 = c .before .before .before .before .before in
     let c16 = c5 .before .before .before .before .before .before .before .before .before .before in
     let c21 = c16 .before .before .before .before .before in
-    c5 .at-event .ensures .1 .1 ∙ c16 .loop .inv .3 ∙ c21 .origin-in .ensures .1
+    c5 .at-event .ensures .1 .1 ∙ c16 .loop .inv .2 ∙ c21 .origin-in .ensures .1
 
 returns : tie.Need-returns Inv-loop μ-loop
 returns c =
@@ -97,17 +96,17 @@ returns c =
     let i = c15 .loop in
     let at = c5 .at-event in
     let load = c11 .event-at in
-    let seats : Seats = record { half = i .half; count = i .count; slots = a .scope .slots } in
+    let seats : Seats = record { half = 0; count = i .count; slots = a .scope .slots } in
     let is =
     subst (λ (m : Moment). TurnOf (now (a .l)) (now (a .places)) (now (a .f)) (now (a .table)) (a .scope .rules) m seats (i .work) (at .last .0) (at .result))
     (c6 .moment-of .ensures)
     (at .ensures .0 (now (a .table)) (c17 .widened .ensures)) in
     let r =
-    searching-found (now (a .l)) (now (a .places)) (now (a .f)) (now (a .table)) (a .scope) (a .start) (a .end) (a .before) (i .n) (i .half) (i .count)
-    (i .width) (i .work) (i .seen) (i .inv .4) (c13 .loop-test .taken) (load .result) (load .ensures) (at .last .0) (at .result) is (c .named .result)
-    (c .before .enum-told .given .1) (i .inv .2)
+    searching-found (now (a .l)) (now (a .places)) (now (a .f)) (now (a .table)) (a .scope) (a .start) (a .end) (a .before) (i .n) 0 (i .count)
+    (i .width) (i .work) (i .seen) (i .inv .3) (c13 .loop-test .taken) (load .result) (load .ensures) (at .last .0) (at .result) is (c .named .result)
+    (c .before .enum-told .given .1) (i .inv .1)
     (c .named .ensures) in
-    (r .0, (r .1, at .ensures .1 .1 ∙ i .inv .3 ∙ c20 .origin-in .ensures .1))
+    (r .0, (r .1, at .ensures .1 .1 ∙ i .inv .2 ∙ c20 .origin-in .ensures .1))
 
 enum-told-2 : tie.Need-enum-told-2 Inv-loop μ-loop
 enum-told-2 c = search needs
@@ -120,7 +119,7 @@ same-length-2 c =
     let c5 = c .before .before .before .before .before in
     let c16 = c5 .before .before .before .before .before .before .before .before .before .before in
     let c21 = c16 .before .before .before .before .before in
-    c5 .at-event .ensures .1 .1 ∙ c16 .loop .inv .3 ∙ c21 .origin-in .ensures .1
+    c5 .at-event .ensures .1 .1 ∙ c16 .loop .inv .2 ∙ c21 .origin-in .ensures .1
 
 returns-2 : tie.Need-returns-2 Inv-loop μ-loop
 returns-2 c =
@@ -136,28 +135,23 @@ returns-2 c =
     let i = c15 .loop in
     let at = c5 .at-event in
     let load = c11 .event-at in
-    let seats : Seats = record { half = i .half; count = i .count; slots = a .scope .slots } in
+    let seats : Seats = record { half = 0; count = i .count; slots = a .scope .slots } in
     let is =
     subst (λ (m : Moment). TurnOf (now (a .l)) (now (a .places)) (now (a .f)) (now (a .table)) (a .scope .rules) m seats (i .work) (at .last .0) (at .result))
     (c6 .moment-of .ensures)
     (at .ensures .0 (now (a .table)) (c17 .widened .ensures)) in
     let r =
-    searching-crowded (now (a .l)) (now (a .places)) (now (a .f)) (now (a .table)) (a .scope) (a .start) (a .end) (a .before) (i .n) (i .half) (i .count)
-    (i .width) (i .work) (i .seen) (i .inv .4) (c13 .loop-test .taken) (load .result) (load .ensures) (at .last .0) (at .result) is (c .refused .result)
+    searching-crowded (now (a .l)) (now (a .places)) (now (a .f)) (now (a .table)) (a .scope) (a .start) (a .end) (a .before) (i .n) 0 (i .count)
+    (i .width) (i .work) (i .seen) (i .inv .3) (c13 .loop-test .taken) (load .result) (load .ensures) (at .last .0) (at .result) is (c .refused .result)
     (c .before .enum-told2 .given .1)
     (c .refused .ensures) in
-    (r .0, (r .1, at .ensures .1 .1 ∙ i .inv .3 ∙ c20 .origin-in .ensures .1))
+    (r .0, (r .1, at .ensures .1 .1 ∙ i .inv .2 ∙ c20 .origin-in .ensures .1))
 
 enum-known-outcome : tie.Need-enum-known-outcome Inv-loop μ-loop
 enum-known-outcome c = search needs
 
 larger-requires : tie.Need-larger-requires Inv-loop μ-loop
 larger-requires c κs = search needs
-
-sub-half : tie.Need-sub-half Inv-loop μ-loop
-sub-half c =
-    let c17 = c .before .before .before .before .before .before .before .before .before .before .before .before .before .before .before .before in
-    omega (arith, c17 .loop .inv .0)
 
 onward-requires : tie.Need-onward-requires Inv-loop μ-loop
 onward-requires c κs = search needs
@@ -181,7 +175,7 @@ loop-again c =
     let i = c17 .loop in
     let at = c7 .at-event in
     let load = c13 .event-at in
-    let seats : Seats = record { half = i .half; count = i .count; slots = a .scope .slots } in
+    let seats : Seats = record { half = 0; count = i .count; slots = a .scope .slots } in
     let is =
     subst (λ (m : Moment). TurnOf (now (a .l)) (now (a .places)) (now (a .f)) (now (a .table)) (a .scope .rules) m seats (i .work) (at .last .0) (at .result))
     (c8 .moment-of .ensures)
@@ -189,16 +183,16 @@ loop-again c =
     let more = c3 .outcome .given in
     let fits : more .0 .0 ≤ a .scope .slots = subst (Fits (a .scope .slots)) (more .1) (at .ensures .1 .0) in
     let larger = c .before .larger in
-    let widest : larger .result ≤ a .scope .slots = omega (arith, larger .ensures, i .inv .2) in
+    let widest : larger .result ≤ a .scope .slots = omega (arith, larger .ensures, i .inv .1) in
     let s =
-    searching-next (now (a .l)) (now (a .places)) (now (a .f)) (now (a .table)) (a .scope) (a .start) (a .end) (a .before) (i .n) (i .half) (i .count)
-    (i .width) (i .work) (i .seen) (i .inv .4) (c15 .loop-test .taken) (load .result) (load .ensures) (at .last .0) (at .result) is (more .0 .0)
+    searching-next (now (a .l)) (now (a .places)) (now (a .f)) (now (a .table)) (a .scope) (a .start) (a .end) (a .before) (i .n) 0 (i .count)
+    (i .width) (i .work) (i .seen) (i .inv .3) (c15 .loop-test .taken) (load .result) (load .ensures) (at .last .0) (at .result) is (more .0 .0)
     (c .onward .result) (more .1) (c .onward .ensures .0) in
     let carried =
     subst
-    (Searching (now (a .l)) (now (a .places)) (now (a .f)) (now (a .table)) (a .scope) (a .start) (a .end) (a .before) (c .onward .result) (1 - i .half)
+    (Searching (now (a .l)) (now (a .places)) (now (a .f)) (now (a .table)) (a .scope) (a .start) (a .end) (a .before) (c .onward .result) 0
     (more .0 .0) (larger .result) (at .last .0)) (sym (ap (λ (m : Moment). m .latest) (c8 .moment-of .ensures))) (rw (larger .ensures) s) in
-    (omega arith, fits, widest, at .ensures .1 .1 ∙ i .inv .3, carried)
+    (fits, widest, at .ensures .1 .1 ∙ i .inv .2, carried)
 
 no-run-requires : tie.Need-no-run-requires Inv-loop μ-loop
 no-run-requires c κs = search needs
@@ -207,7 +201,7 @@ same-length-3 : tie.Need-same-length-3 Inv-loop μ-loop
 same-length-3 c =
     let c3 = c .before .before in
     let c8 = c3 .before .before .before .before .before in
-    c3 .loop .inv .3 ∙ c8 .origin-in .ensures .1
+    c3 .loop .inv .2 ∙ c8 .origin-in .ensures .1
 
 returns-3 : tie.Need-returns-3 Inv-loop μ-loop
 returns-3 c =
@@ -217,9 +211,9 @@ returns-3 c =
     let a = c13 .args in
     let i = c3 .loop in
     let r =
-    searching-over (now (a .l)) (now (a .places)) (now (a .f)) (now (a .table)) (a .scope) (a .start) (a .end) (a .before) (i .n) (i .half) (i .count)
-    (i .width) (i .work) (i .seen) (i .inv .4) (c .no-run .result) (c .before .loop-test .left) (i .inv .2) (c .no-run .ensures) in
-    (r .0, (r .1, i .inv .3 ∙ c8 .origin-in .ensures .1))
+    searching-over (now (a .l)) (now (a .places)) (now (a .f)) (now (a .table)) (a .scope) (a .start) (a .end) (a .before) (i .n) 0 (i .count)
+    (i .width) (i .work) (i .seen) (i .inv .3) (c .no-run .result) (c .before .loop-test .left) (i .inv .1) (c .no-run .ensures) in
+    (r .0, (r .1, i .inv .2 ∙ c8 .origin-in .ensures .1))
 
 pub search-from-spec : {M : Type 1} → statement M
 search-from-spec =
@@ -245,7 +239,6 @@ search-from-spec =
     returns-2
     enum-known-outcome
     larger-requires
-    sub-half
     onward-requires
     loop-less
     loop-again

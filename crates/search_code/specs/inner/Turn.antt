@@ -1,7 +1,7 @@
 -- What the functions of a search are asked: what one event does, and the search from a start.
 use Prim.Native.Nat.{ℕ, zero, suc, _-_, _≤_, _<_}
 use mathlib.Core.Path.{_≡_}
-use mathlib.Core.Bool.{cond}
+use mathlib.Core.Bool.{Bool, cond}
 use mathlib.Core.List.{List, []}
 use mathlib.Core.Option.{none, some}
 use lib.ListN.{length, getD}
@@ -18,7 +18,7 @@ use Rattle.formula.specs.Formula.{Formula}
 use Rattle.formula_code.specs.declared.FormulaReading.{FormulaReading}
 use Rattle.runs.specs.Order.{events, numbers}
 use Rattle.runs.specs.inner.Search as Runs
-use Rattle.runs.specs.inner.Threads.{candidates, insertWithin}
+use Rattle.runs.specs.inner.Settle.{settle}
 use Rattle.machine.specs.Machine.{machine}
 use Rattle.slots.specs.declared.Thread.{Thread}
 use Rattle.slots.specs.inner.Threads.{trailOf}
@@ -76,17 +76,17 @@ namedAnswer kinds t width =
       width = width;
     }
 
--- what one event does to a search: the least run that ends on it; crowded; or the next waiting list, in the other half
+-- what one event does to a search: the least run that ends on it; crowded; or the next waiting list
 abbrev pub TurnTo : (g : Log) (fm : Formula) (half count slots n : ℕ) (before after : List ℕ) → Thread → Outcome → Type 0
 TurnTo g fm half count slots n before after t Found =
     (Runs.least (machine g fm) (Runs.endings (machine g fm) n (waitingIn g fm half count before)) ≡ some (thread g fm t)) × Fit g fm t
 TurnTo g fm half count slots n before after t Crowded =
     (Runs.least (machine g fm) (Runs.endings (machine g fm) n (waitingIn g fm half count before)) ≡ none)
-    × (insertWithin (machine g fm) slots [] (candidates (machine g fm) n (waitingIn g fm half count before)) ≡ none)
+    × (settle (machine g fm) slots n (waitingIn g fm half count before) ≡ none)
 TurnTo g fm half count slots n before after t (Waiting more) =
     (Runs.least (machine g fm) (Runs.endings (machine g fm) n (waitingIn g fm half count before)) ≡ none)
-    × (insertWithin (machine g fm) slots [] (candidates (machine g fm) n (waitingIn g fm half count before)) ≡ some (waitingIn g fm (1 - half) more after))
-    × Kept g fm (1 - half) more after
+    × (settle (machine g fm) slots n (waitingIn g fm half count before) ≡ some (waitingIn g fm half more after))
+    × Kept g fm half more after
 
 abbrev pub TurnIs : List ℕ → List ℕ → List ℕ → List ℕ → Rules → Moment → Seats → List ℕ → List ℕ → Turn → Type 0
 TurnIs l places f table rules m s before after r =
@@ -106,9 +106,13 @@ Fits slots Crowded = Unit {0}
 Fits slots (Waiting more) = more ≤ slots
 
 -- what the readers of two accepted files say of a search with so many slots
-abbrev pub scopeOf : LogReading → FormulaReading → ℕ → Scope
-scopeOf log formula slots =
-    record { events = log .events; rules = record { kinds = formula .kinds; rises = log .rises; fields = log .fields }; slots = slots }
+abbrev pub scopeOf : LogReading → FormulaReading → List Bool → ℕ → Scope
+scopeOf log formula lasting slots =
+    record {
+      events = log .events;
+      rules = record { kinds = formula .kinds; rises = log .rises; fields = log .fields; lasting = lasting };
+      slots = slots;
+    }
 
 -- a log and a formula, as the readers of two accepted files hand them on: the table of places leads to the log's events, and the bytes
 -- are those of the formula

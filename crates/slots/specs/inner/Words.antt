@@ -81,3 +81,11 @@ abbrev pub InsertedAt : ℕ → ℕ → ℕ → ℕ → Thread → List ℕ → 
 InsertedAt half count slots at b before after r =
     Around half count before after r
     × ((p : Thread → Bool) → at ≡ position p (list half count before) → Inserted p half count slots b before after r)
+
+-- the thread of a slot in one half was kept: it stands at the end of the list of that half, which ends before it; the threads behind it and
+-- those of the other half stay
+pub record KeptAt (half count slot : ℕ) (t : Thread) (before after : List ℕ) : Type 0 where
+  pub listed : list half (count + 1) after ≡ list half count before ++ (t ∷ [])
+  pub behind : (i : ℕ) → slot < i → threadAt after (place half i) ≡ threadAt before (place half i)
+  pub other : (half' k n : ℕ) → half' + half ≡ 1 → threadsFrom half' k n after ≡ threadsFrom half' k n before
+  pub sized : length after ≡ length before

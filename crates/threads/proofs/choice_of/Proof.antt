@@ -38,10 +38,9 @@ returns-2 c =
     let x = c .before .lowest-at in (
       omega (arith, x .ensures .0),
       λ g fm s h.
-          let e = sym (committed-word g fm _ _ (a .rules) (s .setting) (a .t) h) ∙ sym (c3 .is-committed .ensures) ∙ c .before .before .if1 .taken in
           let n = a .moment .number in
-          quiet-choice g fm (a .t) n h e
-          (subst (Lowest g fm (conf g fm (a .t)) n) (omega (arith, x .ensures .0, c .if2 .left)) (x .ensures .1 g fm s h)),
+          quiet-choice g fm (a .t) n h
+          (subst (Lowest g fm (conf g fm (a .t)) n) (omega (arith, x .ensures .0, c .if2 .left)) (x .ensures .1 g fm s h) .quiet),
     )
 
 returns-3 : tie.Need-returns-3

@@ -10,6 +10,7 @@ use Rattle.event_log.specs.Log.{Log}
 use Rattle.formula.specs.Formula.{Formula}
 use Rattle.runs.specs.inner.Search as Runs
 use Rattle.machine.specs.Machine.{machine}
+use Rattle.slots.specs.inner.Words.{threadAt, place}
 use Rattle.threads.specs.inner.Calls.{BestFits}
 use Rattle.threads.specs.inner.Event.{bestOf, waitingIn, Kept}
 use Rattle.threads.specs.inner.Setting.{Scene}
@@ -36,11 +37,8 @@ loop-holds : tie.Need-loop-holds Inv-loop μ-loop
 unfolding Runs.least
 loop-holds c = (omega arith, λ g fm s k. (refl, λ q. absurd (false≢true q)))
 
-load-slot-requires : tie.Need-load-slot-requires Inv-loop μ-loop
-load-slot-requires c κs = omega arith
-
-ending-of-requires : tie.Need-ending-of-requires Inv-loop μ-loop
-ending-of-requires c κs = search needs
+ending-at-requires : tie.Need-ending-at-requires Inv-loop μ-loop
+ending-at-requires c κs = search needs
 
 add-j : tie.Need-add-j Inv-loop μ-loop
 add-j c = omega arith
@@ -50,20 +48,18 @@ loop-less c = omega arith
 
 loop-again : tie.Need-loop-again Inv-loop μ-loop
 loop-again c =
-    let c4 = c .before .before .before .before in
-    let c11 = c4 .before .before .before .before .before .before .before in
-    let a = c11 .args in
+    let c3 = c .before .before .before in
+    let a = c3 .before .before .before .before .before .before .before .args in
     let w = now (a .work) in
     let z = a .seats in
-    let l = c4 .loop in
-    let t = c .before .load-slot .result in
-    let e = c .before .load-slot .ensures in
-    let h = c .before .before .if1 .taken in (
+    let l = c3 .loop in
+    let t = threadAt w (place (z .half) (l .j)) in
+    let h = c .before .if1 .taken in (
       omega arith,
       λ g fm s k.
           let v = l .inv .1 g fm s k in
-          let i = c .ending-of .ensures g fm s (kept-at g fm (z .half) (z .count) w (l .j) t k h e) (v .1) in
-          (ending-next g fm (a .moment .number) (z .half) (z .count) w (l .j) _ (l .best) (v .0) t (c .ending-of .result) h e i, i .fits),
+          let i = c .ending-at .ensures g fm s (kept-at g fm (z .half) (z .count) w (l .j) t k h refl) (v .1) in
+          (ending-next g fm (a .moment .number) (z .half) (z .count) w (l .j) _ (l .best) (v .0) t (c .ending-at .result) h refl i, i .fits),
     )
 
 returns : tie.Need-returns Inv-loop μ-loop
@@ -85,8 +81,7 @@ ending-spec =
     μ-loop
     origin-requires
     loop-holds
-    load-slot-requires
-    ending-of-requires
+    ending-at-requires
     add-j
     loop-less
     loop-again

@@ -1,27 +1,29 @@
 -- What each function of one event gives, for every log and formula whose setting it stands in.
-use Prim.Native.Nat.{ℕ, suc, _-_, _<_, _≤_}
+use Prim.Native.Nat.{ℕ, suc, _+_, _-_, _<_, _≤_}
 use mathlib.Core.Path.{_≡_}
-use mathlib.Core.Bool.{Bool, true, false}
+use mathlib.Core.Bool.{Bool, true, false, _&&_}
 use mathlib.Core.Logic.{_⊎_}
 use mathlib.Core.List.{List, [], _∷_, _++_}
 use mathlib.Core.Option.{Option, none, some}
-use lib.ListN.{length, getD}
-use lib.Dec.{eqb}
+use lib.ListN.{length, getD, take}
+use lib.Dec.{eqb, ltb}
 use Rattle.base.specs.Lists.{sameList}
 use Rattle.event_log.specs.Log.{Log, Values, field}
 use Rattle.formula.specs.Formula.{Formula}
 use Rattle.runs.specs.inner.Lists.{only, keep}
 use Rattle.runs.specs.inner.Search as Runs
 use Rattle.runs.specs.inner.Threads.{insertWithin}
+use Rattle.runs.specs.inner.Settle.{stayers, movers, settle}
 use Rattle.machine.specs.Configuration.{Config, same}
 use Rattle.machine.specs.Machine.{machine, fireAt, final}
-use Rattle.machine_code.specs.inner.Bytes.{configOf}
+use Rattle.machine_code.specs.inner.Bytes.{configOf, offsetOf}
 use Rattle.slots.specs.declared.Thread.{Thread}
 use Rattle.slots.specs.inner.Threads.{trailOf, sameWords, position}
-use Rattle.slots.specs.inner.Words.{list, Around, Inserted}
+use Rattle.slots.specs.inner.Words.{threadAt, place, list, Around, Inserted}
 use Rattle.threads.specs.declared.Best.{Best}
 use Rattle.threads.specs.declared.Move.{Move}
 use Rattle.threads.specs.declared.Choice.{Choice}
+use Rattle.threads.specs.declared.Sifted.{Sifted}
 use Rattle.threads.specs.declared.Rules.{Rules}
 use Rattle.threads.specs.declared.Moment.{Moment}
 use Rattle.threads.specs.declared.Seats.{Seats}
@@ -219,14 +221,82 @@ OfferMovesIs l places f table rules m s t choice before after r =
     InsertedIs l places f table rules m s (λ g fm. Going g fm t)
     (λ g fm. offered g fm (m .number) (Runs.firing (machine g fm) (thread g fm t) (m .number) (choice .from) (choice .to - choice .from))) before after r
 
--- the thread as it stands, if it may stay and wait
-abbrev pub StayIs : List ℕ → List ℕ → List ℕ → List ℕ → Rules → Moment → Seats → Thread → Bool → List ℕ → List ℕ → ℕ → Type 0
-StayIs l places f table rules m s t stays before after r =
-    InsertedIs l places f table rules m s (λ g fm. Going g fm t) (λ g fm. keep (Runs.hopeful (machine g fm) (m .number)) (only stays (thread g fm t) []))
-    before after r
+-- ---- the threads that stay
 
--- what the thread offers on the event that may wait after it: its stay, then its moves
-abbrev pub OfferAllIs : List ℕ → List ℕ → List ℕ → List ℕ → Rules → Moment → Seats → Thread → List ℕ → List ℕ → ℕ → Type 0
-OfferAllIs l places f table rules m s t before after r =
-    InsertedIs l places f table rules m s (λ g fm. Going g fm t)
-    (λ g fm. keep (Runs.hopeful (machine g fm) (m .number)) (Runs.offers (machine g fm) (m .number) (thread g fm t))) before after r
+-- the thread of slot j was kept at the end of the list, or dropped: r threads are there then; those behind it stay, and the other half
+pub record Remained (half count j : ℕ) (t : Thread) (before after : List ℕ) (r : ℕ) : Type 0 where
+  pub least : count ≤ r
+  pub most : r ≤ suc count
+  pub listed : list half r after ≡ list half count before ++ only (ltb count r) t []
+  pub behind : (i : ℕ) → j < i → threadAt after (place half i) ≡ threadAt before (place half i)
+  pub other : (m : ℕ) → list (1 - half) m after ≡ list (1 - half) m before
+  pub sized : length after ≡ length before
+
+-- it was kept exactly where it may stay and wait
+abbrev pub RemainIs : List ℕ → List ℕ → List ℕ → List ℕ → Rules → Moment → Seats → Thread → Bool → ℕ → List ℕ → List ℕ → ℕ → Type 0
+RemainIs l places f table rules m s t stays j before after r =
+    Remained (s .half) (s .count) j t before after r
+    × ((g : Log) (fm : Formula) → Scene g fm l places f table rules m → Going g fm t
+    → ltb (s .count) r ≡ (stays && Runs.hopeful (machine g fm) (m .number) (thread g fm t)))
+
+-- the thread has begun, its state has a step that never expires, and the event's table has none of its state
+pub record Idle (table : List ℕ) (rules : Rules) (t : Thread) : Type 0 where
+  pub begun : 0 < t .steps
+  pub lasting : getD (rules .lasting) (t .config .state) false ≡ true
+  pub quiet : (k : ℕ) → k < 8 → offsetOf table (t .config .state) k ≡ 0
+
+abbrev pub IdlesIs : List ℕ → Rules → Thread → Bool → Type 0
+IdlesIs table rules t r = r ≡ true → Idle table rules t
+
+-- the words while a list of so many threads is sifted: of the first j so many stay, and their moves have left so many; those behind
+-- them are as they were
+pub record Sifts (s : Seats) (before : List ℕ) (j : ℕ) (a : Sifted) (now : List ℕ) : Type 0 where
+  pub seen : j ≤ s .count
+  pub front : a .stayed ≤ j
+  pub room : a .moved ≤ s .slots
+  pub behind : (i : ℕ) → j ≤ i → i < s .count → threadAt now (place (s .half) i) ≡ threadAt before (place (s .half) i)
+  pub sized : length now ≡ length before
+
+-- what the first j threads leave: those that stay are the front of the half, what their moves leave stands in the other
+pub record Sifting (g : Log) (fm : Formula) (n : ℕ) (s : Seats) (before : List ℕ) (j : ℕ) (a : Sifted) (now : List ℕ) : Type 0 where
+  pub moved-are : insertWithin (machine g fm) (s .slots) [] (movers (machine g fm) n (take j (waitingIn g fm (s .half) (s .count) before)))
+      ≡ some (waitingIn g fm (1 - s .half) (a .moved) now)
+  pub moved-kept : Kept g fm (1 - s .half) (a .moved) now
+  pub stayed-are : waitingIn g fm (s .half) (a .stayed) now ≡ stayers (machine g fm) n (take j (waitingIn g fm (s .half) (s .count) before))
+  pub stayed-kept : Kept g fm (s .half) (a .stayed) now
+
+-- one thread more was sifted, or what it leaves needs one more slot
+abbrev pub SiftedOn : (g : Log) (fm : Formula) (n : ℕ) (s : Seats) (before : List ℕ) (j : ℕ) (r : Sifted) (now : List ℕ) → Type 0
+SiftedOn g fm n s before j r now =
+    ((r .moved ≤ s .slots) × Sifting g fm n s before j r now)
+    ⊎ ((r .moved ≡ suc (s .slots)) × (settle (machine g fm) (s .slots) n (waitingIn g fm (s .half) (s .count) before) ≡ none))
+
+abbrev pub SiftOneIs : List ℕ → List ℕ → List ℕ → List ℕ → Rules → Moment → Seats → Sifted → ℕ → List ℕ → List ℕ → Sifted → Type 0
+SiftOneIs l places f table rules m s a j now after r =
+    (r .stayed ≤ suc j) × (r .moved ≤ suc (s .slots)) × (length after ≡ length now)
+    × ((before : List ℕ) → Sifts s before j a now → r .moved ≤ s .slots → Sifts s before (j + 1) r after)
+    × ((before : List ℕ) → Sifts s before j a now → (g : Log) (fm : Formula) → Scene g fm l places f table rules m → Kept g fm (s .half) (s .count) before
+    → Sifting g fm (m .number) s before j a now → SiftedOn g fm (m .number) s before (j + 1) r after)
+
+-- the threads of the half that stay are its front, those that moved stand in the other half, distinct; or more moved than there are slots
+abbrev pub SiftedTo : (g : Log) (fm : Formula) (n : ℕ) (s : Seats) (before after : List ℕ) (r : Sifted) → Type 0
+SiftedTo g fm n s before after r =
+    ((r .moved ≤ s .slots)
+    × (insertWithin (machine g fm) (s .slots) [] (movers (machine g fm) n (waitingIn g fm (s .half) (s .count) before))
+    ≡ some (waitingIn g fm (1 - s .half) (r .moved) after))
+    × Kept g fm (1 - s .half) (r .moved) after
+    × (waitingIn g fm (s .half) (r .stayed) after ≡ stayers (machine g fm) n (waitingIn g fm (s .half) (s .count) before))
+    × Kept g fm (s .half) (r .stayed) after)
+    ⊎ ((r .moved ≡ suc (s .slots)) × (settle (machine g fm) (s .slots) n (waitingIn g fm (s .half) (s .count) before) ≡ none))
+
+abbrev pub SiftIs : List ℕ → List ℕ → List ℕ → List ℕ → Rules → Moment → Seats → List ℕ → List ℕ → Sifted → Type 0
+SiftIs l places f table rules m s before after r =
+    (r .stayed ≤ s .count) × (r .moved ≤ suc (s .slots)) × (length after ≡ length before)
+    × ((g : Log) (fm : Formula) → Scene g fm l places f table rules m → Kept g fm (s .half) (s .count) before → SiftedTo g fm (m .number) s before after r)
+
+-- the threads of the other half were inserted into the list, one by one
+abbrev pub MergeIs : List ℕ → List ℕ → List ℕ → List ℕ → Rules → Seats → ℕ → List ℕ → List ℕ → ℕ → Type 0
+MergeIs l places f table rules s more before after r =
+    Grown (s .half) (s .slots) before after r
+    × ((g : Log) (fm : Formula) (m : Moment) → Scene g fm l places f table rules m → Kept g fm (s .half) (s .count) before → Kept g fm (1 - s .half) more before
+    → Within g fm (s .half) (s .slots) (waitingIn g fm (s .half) (s .count) before) (waitingIn g fm (1 - s .half) more before) after r)

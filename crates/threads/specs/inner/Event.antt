@@ -1,16 +1,16 @@
 -- One event of a search: the least run that ends on it, and the waiting list after it.
-use Prim.Native.Nat.{ℕ, suc, _-_, _*_, _<_, _≤_}
+use Prim.Native.Nat.{ℕ, suc, _*_, _<_, _≤_}
 use mathlib.Core.Path.{_≡_}
 use mathlib.Core.Bool.{Bool, true, false}
 use mathlib.Core.Logic.{_⊎_}
-use mathlib.Core.List.{List, [], map}
+use mathlib.Core.List.{List, map}
 use mathlib.Core.Option.{Option, none, some}
 use lib.ListN.{length}
 use Rattle.base.specs.Lists.{All}
 use Rattle.event_log.specs.Log.{Log}
 use Rattle.formula.specs.Formula.{Formula}
 use Rattle.runs.specs.inner.Search as Runs
-use Rattle.runs.specs.inner.Threads.{candidates, insertWithin}
+use Rattle.runs.specs.inner.Settle.{settle}
 use Rattle.machine.specs.Machine.{machine}
 use Rattle.slots.specs.declared.Thread.{Thread}
 use Rattle.slots.specs.inner.Words.{list}
@@ -48,13 +48,13 @@ EndingIs l places f table rules m s work r =
     → (bestOf g fm r ≡ Runs.least (machine g fm) (Runs.endings (machine g fm) (m .number) (waitingIn g fm (s .half) (s .count) work)))
     × (r .found ≡ true → Fit g fm (r .thread))
 
--- the next waiting list stands in the other half, or it has more threads than there are slots
-abbrev pub AdvancedTo : (g : Log) (fm : Formula) (n : ℕ) (s : Seats) (before after : List ℕ) (r : ℕ) → Type 0
-AdvancedTo g fm n s before after r =
-    ((r ≤ s .slots) × (insertWithin (machine g fm) (s .slots) [] (candidates (machine g fm) n (waitingIn g fm (s .half) (s .count) before))
-    ≡ some (waitingIn g fm (1 - s .half) r after)) × Kept g fm (1 - s .half) r after)
-    ⊎ ((r ≡ suc (s .slots)) × (insertWithin (machine g fm) (s .slots) [] (candidates (machine g fm) n (waitingIn g fm (s .half) (s .count) before)) ≡ none))
+-- the next waiting list stands in the same half, or it has more threads than there are slots
+abbrev pub SettledTo : (g : Log) (fm : Formula) (n : ℕ) (s : Seats) (before after : List ℕ) (r : ℕ) → Type 0
+SettledTo g fm n s before after r =
+    ((r ≤ s .slots) × (settle (machine g fm) (s .slots) n (waitingIn g fm (s .half) (s .count) before) ≡ some (waitingIn g fm (s .half) r after))
+    × Kept g fm (s .half) r after)
+    ⊎ ((r ≡ suc (s .slots)) × (settle (machine g fm) (s .slots) n (waitingIn g fm (s .half) (s .count) before) ≡ none))
 
-abbrev pub AdvancedIs : List ℕ → List ℕ → List ℕ → List ℕ → Rules → Moment → Seats → List ℕ → List ℕ → ℕ → Type 0
-AdvancedIs l places f table rules m s before after r =
-    (g : Log) (fm : Formula) → Scene g fm l places f table rules m → Kept g fm (s .half) (s .count) before → AdvancedTo g fm (m .number) s before after r
+abbrev pub SettledIs : List ℕ → List ℕ → List ℕ → List ℕ → Rules → Moment → Seats → List ℕ → List ℕ → ℕ → Type 0
+SettledIs l places f table rules m s before after r =
+    (g : Log) (fm : Formula) → Scene g fm l places f table rules m → Kept g fm (s .half) (s .count) before → SettledTo g fm (m .number) s before after r

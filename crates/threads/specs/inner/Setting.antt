@@ -2,6 +2,7 @@
 use Prim.Native.Nat.{ℕ, _+_, _<_, _≤_}
 use mathlib.Core.Path.{_≡_}
 use mathlib.Core.Bool.{Bool, true, false}
+use mathlib.Core.Logic.{_⊎_}
 use mathlib.Core.List.{List, map}
 use lib.ListN.{length, getD}
 use Rattle.base.specs.Lists.{All, pad}
@@ -16,7 +17,7 @@ use Rattle.formula.specs.Encode.{encode, kindByte}
 use Rattle.formula.specs.Correct as FormulaCorrect
 use Rattle.formula.specs.Lookup.{stepTable}
 use Rattle.machine_code.specs.declared.Configuration.{Configuration}
-use Rattle.machine_code.specs.inner.Bytes.{configOf, fired, lapsed}
+use Rattle.machine_code.specs.inner.Bytes.{configOf, fired, lapsed, offsetOf, isStep}
 use Rattle.runs.specs.Run.{Entry}
 use Rattle.runs.specs.inner.Search as Runs
 use Rattle.machine.specs.Configuration.{Config}
@@ -29,8 +30,35 @@ use Rattle.slots.specs.inner.Threads.{trailOf}
 use Rattle.threads.specs.declared.Rules.{Rules}
 use Rattle.threads.specs.declared.Moment.{Moment}
 
+-- the step at an offset is there and never expires, whatever the configuration and the values
+pub record LastingStep (f : List ℕ) (at : ℕ) (rises : List Bool) : Type 0 where
+  pub there : isStep f at ≡ true
+  pub alive : (fresh : List Bool) (c : Configuration) (latest : Values) → lapsed f at c fresh rises latest ≡ false
+
+abbrev pub LastsAt : List ℕ → ℕ → List Bool → Bool → Type 0
+LastsAt f at rises r = r ≡ true → LastingStep f at rises
+
+-- state s has such a step
+pub record LastingState (f table : List ℕ) (rises : List Bool) (s : ℕ) : Type 0 where
+  pub step : ℕ
+  pub known : step < 8
+  pub lasts : LastingStep f (offsetOf table s step) rises
+
+-- a state marked after the step at an offset, of state k, was looked at: it was marked before, or is k, and the step never expires
+abbrev pub MarkLastingIs : List ℕ → ℕ → List Bool → ℕ → List Bool → List Bool → Type 0
+MarkLastingIs f at rises k before after =
+    (s : ℕ) → getD after s false ≡ true → (getD before s false ≡ true) ⊎ ((s ≡ k) × LastingStep f at rises)
+
+-- so has every state that is marked
+abbrev pub LastingIs : List ℕ → List ℕ → List Bool → List Bool → Type 0
+LastingIs f table rises marked = (s : ℕ) → getD marked s false ≡ true → LastingState f table rises s
+
+-- the table has no step of state s
+abbrev pub QuietIs : List ℕ → ℕ → Bool → Type 0
+QuietIs table s r = r ≡ true → (k : ℕ) → k < 8 → offsetOf table s k ≡ 0
+
 -- a correct log g and a correct formula fm against it: the formula's bytes, where its steps stand, the kinds of its states, which
--- fields rise, and how many there are
+-- fields rise, how many there are, and marks on states that last
 pub record Setting (g : Log) (fm : Formula) (f table : List ℕ) (rules : Rules) : Type 0 where
   pub log : LogCorrect.Recorded g
   pub formula : FormulaCorrect.Correct (length (g .fields)) fm
@@ -39,6 +67,7 @@ pub record Setting (g : Log) (fm : Formula) (f table : List ℕ) (rules : Rules)
   pub kinds-are : rules .kinds ≡ pad 16 0 (map (λ (s : State). kindByte (s .kind)) (fm .states))
   pub rising-are : rules .rises ≡ pad 8 false (map rises (g .fields))
   pub fields-are : rules .fields ≡ length (g .fields)
+  pub lasting-are : LastingIs f table (rules .rises) (rules .lasting)
 
 -- what an event's table has for a step that stands at `at`: that offset, or 0 where the step does not fire on the event, whatever
 -- the configuration

@@ -3,17 +3,27 @@ use Rattle.event_log.specs.Arrays.{inLatest}
 use Rattle.machine_code.specs.inner.Bytes.{expiresAt, aliveBelow}
 use Rattle.base.proofs.Lists.{rest-drop}
 use native.Mathlib.Omega.{arith}
-use mathlib.Core.Path.{refl, ap, _∙_}
+use mathlib.Core.Path.{refl, ap, sym, _∙_}
 use denote.Ref.{now}
 use Rattle.formula.specs.Lookup.{stepTable}
 use Rattle.threads.proofs.Charts.{latest-values}
-use Rattle.threads.proofs.Tables.{hopeful-here}
+use Rattle.threads.proofs.Tables.{hopeful-here, hopeful-lasting}
 use borrow.Author.Needs.{needs}
 use Rattle.threads.proofs.step.hopeful_at.Statement.{statement}
 use Rattle.threads.proofs.step.hopeful_at.Tie as tie
 
 returns : tie.Need-returns
 returns c = λ g fm s h. absurd (omega (arith, s .offsets .sized, c .if1 .taken))
+
+is-lasting-requires : tie.Need-is-lasting-requires
+is-lasting-requires c κs = search needs
+
+returns-2 : tie.Need-returns-2
+returns-2 c =
+    let a = c .before .before .before .before .before .before .before .before .args in
+    let x = c .before .is-lasting in
+    λ g fm s h.
+    hopeful-lasting g fm (now (a .f)) (now (a .table)) (a .rules) (a .moment) s (a .t) h (sym (x .ensures) ∙ c .if2 .taken)
 
 fresh-at-requires : tie.Need-fresh-at-requires
 fresh-at-requires c κs = search needs
@@ -30,10 +40,9 @@ part-hopeful-end c = search needs
 hopeful-requires : tie.Need-hopeful-requires
 hopeful-requires c κs = search needs
 
-returns-2 : tie.Need-returns-2
-returns-2 c =
-    let c14 = c .before .before .before .before .before .before .before .before .before .before .before .before .before .before in
-    let a = c14 .args in
+returns-3 : tie.Need-returns-3
+returns-3 c =
+    let a = c .before .before .before .before .before .before .before .before .before .before .before .before .before .before .before .before .args in
     let f = now (a .f) in
     let steps = now (a .table) in
     let n = c .before .before .fresh-at in
@@ -49,9 +58,11 @@ hopeful-at-spec =
     tie.close
     (tie.spec
     returns
+    is-lasting-requires
+    returns-2
     fresh-at-requires
     sub-hopeful
     part-hopeful-start
     part-hopeful-end
     hopeful-requires
-    returns-2)
+    returns-3)
