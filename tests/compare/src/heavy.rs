@@ -16,8 +16,20 @@ pub enum Kind {
     Clocked,
     /// About 60 threads wait behind guards of 31 commands, for 10 events each.
     Guards,
+    /// The same behind guards of 31 commands with IFs, none of them hopeless.
+    Ifs,
+    /// About 60 threads wait behind TESTVs, for 10 events each.
+    Tests,
+    /// About 60 threads wait behind falling guards, one of which makes its step
+    /// hopeless at every event.
+    Falling,
     /// About 60 threads move on at every event through committed states.
     Committed,
+    /// The same, and each of them gathers what its guard reads.
+    Bounces,
+    /// At every event each of up to 50 threads takes six steps, nearly all of
+    /// which lead to configurations that wait already.
+    Churn,
     /// Every start ends on the last event, and its tied value is new.
     Overlap,
     /// One thread a start waits to the end in vain.
@@ -32,12 +44,17 @@ pub enum Kind {
 }
 
 impl Kind {
-    pub const ALL: [Kind; 10] = [
+    pub const ALL: [Kind; 15] = [
         Kind::Ordinary,
         Kind::Lacking,
         Kind::Clocked,
         Kind::Guards,
+        Kind::Ifs,
+        Kind::Tests,
+        Kind::Falling,
         Kind::Committed,
+        Kind::Bounces,
+        Kind::Churn,
         Kind::Overlap,
         Kind::Quiet,
         Kind::Still,
@@ -51,7 +68,12 @@ impl Kind {
             Kind::Lacking => "lacking",
             Kind::Clocked => "clocked",
             Kind::Guards => "guards",
+            Kind::Ifs => "ifs",
+            Kind::Tests => "tests",
+            Kind::Falling => "falling",
             Kind::Committed => "committed",
+            Kind::Bounces => "bounces",
+            Kind::Churn => "churn",
             Kind::Overlap => "overlap",
             Kind::Quiet => "quiet",
             Kind::Still => "still",
@@ -81,12 +103,18 @@ const ACCEPT_STATE: u8 = 15;
 pub fn pair(kind: Kind, events: usize) -> Pair {
     let period = match kind {
         Kind::Overlap => events,
+        Kind::Churn => 20,
         _ => 128,
     };
     let states = match kind {
         Kind::Ordinary | Kind::Lacking | Kind::Clocked => ordinary(),
         Kind::Guards => guards(),
-        Kind::Committed => committed(),
+        Kind::Ifs => ifs(),
+        Kind::Tests => tests(),
+        Kind::Falling => falling(),
+        Kind::Committed => committed(Vec::new()),
+        Kind::Bounces => committed(bounce()),
+        Kind::Churn => churn(),
         Kind::Overlap => overlap(),
         Kind::Quiet => quiet(),
         Kind::Still => still(),
@@ -201,8 +229,9 @@ fn long_zero(leaf: Vec<u8>) -> Vec<u8> {
 }
 
 /// Six threads an event for 10 events; each waits for 10 events behind eight
-/// guards.
-fn guards() -> Vec<Vec<u8>> {
+/// steps with the given parts, the first seven and the last. Its time and 10
+/// more is in variable 3.
+fn waiting(seven: Vec<u8>, last: Vec<u8>) -> Vec<Vec<u8>> {
     let mut parts = vec![first(bind(3, 4)), state(0)];
     for number in 2..10 {
         let young = testv(TIME, LESS_THAN, 4);
@@ -213,27 +242,120 @@ fn guards() -> Vec<Vec<u8>> {
         parts.push(join(&[step(number), young, code, bind(1, 3)]));
     }
     for number in 2..10 {
-        let young = testv(TIME, LESS_THAN, 3);
-        let settled = join(&[young.clone(), guard(long_zero(var(3)))]);
-        let open = join(&[young, bind(CODE, 2), guard(long_zero(var(2)))]);
         let next = if number == 9 { 10 } else { ACCEPT_STATE };
-        let seven = times(7, join(&[step(next), settled]));
-        parts.push(join(&[state(0), seven, step(next), open]));
+        let others = times(7, join(&[step(next), seven.clone()]));
+        parts.push(join(&[state(0), others, step(next), last.clone()]));
     }
     parts.push(rest(10, 0));
     parts
 }
 
+/// A thread's time is not over.
+fn young() -> Vec<u8> {
+    testv(TIME, LESS_THAN, 3)
+}
+
+/// Eight guards, of which seven are hopeless at once.
+fn guards() -> Vec<Vec<u8>> {
+    let settled = join(&[young(), guard(long_zero(var(3)))]);
+    let open = join(&[young(), bind(CODE, 2), guard(long_zero(var(2)))]);
+    waiting(settled, open)
+}
+
+/// 31 commands with IFs that come to 0, which depends on variable 2.
+fn ifs() -> Vec<Vec<u8>> {
+    let pair = |code: u8| op(code, &[var(3), count(1)]);
+    // Not the sum but the difference is taken, which is not 0.
+    let difference = op(IF, &[pair(LESS), pair(ADD), pair(SUB)]);
+    let never = op(LESS, &[var(2), constant(0)]);
+    let all = op(AND, &[difference.clone(), op(AND, &[difference, never])]);
+    let later = op(LESS, &[count(1), var(3)]);
+    let zero = op(IF, &[later, all, op(NOT, &[constant(1)])]);
+    let open = join(&[young(), bind(CODE, 2), guard(zero)]);
+    waiting(open.clone(), open)
+}
+
+/// Eight TESTVs of which only the last does not hold.
+fn tests() -> Vec<Vec<u8>> {
+    let held = join(&[
+        young(),
+        testv(1, AT_LEAST, 3),
+        testv(3, AT_LEAST, 3),
+        testv(TIME, UNEQUAL, 3),
+        testv(3, UNEQUAL, 3),
+        testv(FLAG, UNEQUAL, 3),
+        testv(5, UNEQUAL, 3),
+        testv(FLAG, EQUALS, 3),
+    ]);
+    waiting(held.clone(), held)
+}
+
+/// A step that never fires, with a falling guard of 29 commands: not so much
+/// time has passed.
+fn fading(passed: u32) -> Vec<u8> {
+    let less = || {
+        let since = op(SUB, &[var(2), var(3)]);
+        op(LESS, &[since, constant(passed)])
+    };
+    let two = || op(AND, &[less(), less()]);
+    let five = op(AND, &[two(), op(AND, &[less(), two()])]);
+    join(&[test(CODE, EQUALS, 60), bind(1, 2), guard(five)])
+}
+
+/// As above; the steps of a thread become hopeless one after the other.
+fn falling() -> Vec<Vec<u8>> {
+    let mut parts = waiting(Vec::new(), Vec::new());
+    for (number, part) in parts[10..18].iter_mut().enumerate() {
+        let next = if number == 7 { 10 } else { ACCEPT_STATE };
+        *part = state(0);
+        for passed in 3..11 {
+            part.extend(join(&[step(next), fading(passed)]));
+        }
+    }
+    parts
+}
+
+/// Threads that move meet others and those that wait: the steps of a state lead
+/// back to it, and only how many were taken and which of two variables are held
+/// tells threads apart.
+fn churn() -> Vec<Vec<u8>> {
+    let to = |variable: u8| {
+        let common = test(CODE, UNEQUAL, 60);
+        join(&[step(1), common, bind(FLAG, variable)])
+    };
+    let moves = join(&[times(3, join(&[to(1), to(2)])), hopeless(2)]);
+    let leave = join(&[step(ACCEPT_STATE), test(FLAG, EQUALS, 1)]);
+    vec![
+        first(bind(TIME, 7)),
+        join(&[state(0), moves, leave]),
+        rest(2, 0),
+    ]
+}
+
+/// Gathers a code and asks for its list.
+fn bounce() -> Vec<u8> {
+    let few = op(LESS, &[length(8), constant(40)]);
+    let some = op(LESS, &[constant(0), different(8)]);
+    let much = op(AT_MOST, &[different(8), sum(9)]);
+    let gathers = join(&[gather(CODE, 8), gather(TIME, 9)]);
+    join(&[gathers, guard(op(AND, &[few, op(AND, &[some, much])]))])
+}
+
 /// Two threads an event, each of which takes its last step on every event
-/// until it has taken 32 or there is a flag.
-fn committed() -> Vec<Vec<u8>> {
+/// until it has taken 32 or there is a flag. That step has some more parts, or
+/// as many tests as there may be.
+fn committed(more: Vec<u8>) -> Vec<Vec<u8>> {
     let mut parts = vec![first(bind(TIME, 7)), state(0), times(6, hopeless(2))];
     parts.push(join(&[step(2), seven(), bind(TIME, 0)]));
     parts.push(join(&[step(8), seven(), bind(TIME, 0)]));
     for number in 2..REJECT_STATE {
         let next = if number == 13 { 2 } else { number + 1 };
         let leave = join(&[step(ACCEPT_STATE), seven(), test(FLAG, EQUALS, 1)]);
-        let move_on = join(&[step(next), seven(), test(CODE, UNEQUAL, 60)]);
+        let tests = match more.is_empty() {
+            true => join(&[seven(), test(CODE, UNEQUAL, 60)]),
+            false => test(CODE, UNEQUAL, 60),
+        };
+        let move_on = join(&[step(next), tests, more.clone()]);
         let others = times(6, hopeless(REJECT_STATE));
         parts.push(join(&[state(1), others, leave, move_on]));
     }

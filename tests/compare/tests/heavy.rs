@@ -4,6 +4,7 @@ use compare::heavy::{pair, Kind};
 use reference::analysis::{analyse, ROW_WORDS};
 use reference::compose::test;
 use reference::search::{read_both, search, MOST_SEATS, SEAT_WORDS};
+use reference::tuned;
 
 const EVENTS: usize = 300;
 const WORDS: usize = MOST_SEATS * SEAT_WORDS;
@@ -33,7 +34,10 @@ fn seats_nearly_full_and_never_crowded() {
         assert_eq!(answer, Ok(()), "{kind:?}");
         let found = search(&pair.log, &pair.formula, 5, WORDS).expect("no refusal");
         let least = match kind {
-            Kind::Ordinary | Kind::Lacking | Kind::Clocked | Kind::Guards | Kind::Committed => 60,
+            Kind::Ordinary | Kind::Lacking | Kind::Clocked => 60,
+            Kind::Guards | Kind::Ifs | Kind::Tests | Kind::Falling => 60,
+            Kind::Committed | Kind::Bounces => 60,
+            Kind::Churn => 30,
             Kind::Overlap | Kind::Quiet => 1,
             Kind::Still => 0,
             Kind::Full => 59,
@@ -49,6 +53,22 @@ fn all_seats_full() {
         let pair = pair(kind, EVENTS);
         let found = search(&pair.log, &pair.formula, 0, WORDS).expect("no refusal");
         assert_eq!(found.width, MOST_SEATS, "{kind:?}");
+    }
+}
+
+#[test]
+fn tuned_rows_agree() {
+    for kind in Kind::ALL {
+        let pair = pair(kind, 150);
+        let (mut plain, mut tuned) = (vec![0; ROW_WORDS * 150], vec![0; ROW_WORDS * 150]);
+        let answer = analyse(&pair.log, &pair.formula, WORDS, &mut plain);
+        let other = tuned::analyse(&pair.log, &pair.formula, WORDS, &mut tuned);
+        assert_eq!((answer, plain), (other, tuned), "{kind:?}");
+        for start in [0, 5, 100] {
+            let answer = search(&pair.log, &pair.formula, start, WORDS);
+            let other = tuned::search(&pair.log, &pair.formula, start, WORDS);
+            assert_eq!(answer, other, "{kind:?}");
+        }
     }
 }
 

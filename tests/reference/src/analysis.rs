@@ -51,7 +51,7 @@ pub fn analyse(log: &[u8], formula: &[u8], words: usize, rows: &mut [u32]) -> Re
     Ok(())
 }
 
-fn last(run: &Run) -> usize {
+pub fn last(run: &Run) -> usize {
     run.events[run.events.len() - 1]
 }
 
@@ -73,7 +73,7 @@ fn same_tied(formula: &Formula, one: &Values, other: &Values) -> bool {
     (0..VARIABLES).all(|v| !formula.tied[v] || same(v))
 }
 
-fn write(row: &mut [u32], verdict: u32, run: &Run) {
+pub fn write(row: &mut [u32], verdict: u32, run: &Run) {
     row[0] = verdict;
     row[1] = last(run) as u32;
     row[2] = run.events.len() as u32;

@@ -14,3 +14,4 @@ pub mod reach;
 pub mod refusal;
 pub mod runs;
 pub mod search;
+pub mod tuned;

@@ -1,8 +1,9 @@
-//! `bench [--repeat N] [--events N] [KIND..]` times product and reference on
-//! the same heavy cases, turn by turn: every start's analysis, then the search
-//! of one start.
-//! `bench --once analysis|search KIND product|plain [EVENTS]` makes one call
-//! alone, for a count of instructions.
+//! `bench [--repeat N] [--events N] [KIND..]` times the product, the plain
+//! reference and its tuned form on the same heavy cases, turn by turn: every
+//! start's analysis, then the search of one start. What differs anywhere is
+//! not timed.
+//! `bench --once analysis|search KIND product|plain|tuned [EVENTS]` makes one
+//! call alone, for a count of instructions.
 
 use compare::clock;
 use compare::files::Pair;
@@ -10,7 +11,8 @@ use compare::heavy::{self, Kind};
 use compare::product;
 use reference::analysis::{self, ROW_WORDS};
 use reference::log::MOST_EVENTS;
-use reference::search::{self, MOST_SEATS, SEAT_WORDS};
+use reference::search::{self, Answer, MOST_SEATS, SEAT_WORDS};
+use reference::tuned;
 use std::hint::black_box;
 use std::process::ExitCode;
 use std::time::Duration;
@@ -21,8 +23,9 @@ const WORDS: usize = MOST_SEATS * SEAT_WORDS;
 const LEAST: Duration = Duration::from_millis(100);
 
 const USAGE: &str = "bench [--repeat N] [--events N] [KIND..]
-bench --once analysis|search KIND product|plain [EVENTS]
-kinds: ordinary lacking guards committed overlap quiet still full gather";
+bench --once analysis|search KIND product|plain|tuned [EVENTS]
+kinds: ordinary lacking clocked guards ifs tests falling committed bounces churn
+       overlap quiet still full gather";
 
 struct Options {
     repeat: usize,
@@ -87,6 +90,14 @@ pub fn bench_plain(pair: &Pair, _work: &mut [u32], rows: &mut [u32]) -> usize {
     answer.err().map_or(0, |refusal| refusal.number as usize)
 }
 
+/// The tuned analysis; a name for tools that count instructions.
+#[no_mangle]
+#[inline(never)]
+pub fn bench_tuned(pair: &Pair, _work: &mut [u32], rows: &mut [u32]) -> usize {
+    let answer = tuned::analyse(&pair.log, &pair.formula, WORDS, rows);
+    answer.err().map_or(0, |refusal| refusal.number as usize)
+}
+
 /// The product's search of start 0, likewise: its refusal and its width.
 #[no_mangle]
 #[inline(never)]
@@ -100,6 +111,16 @@ pub fn search_product(pair: &Pair, work: &mut [u32], _rows: &mut [u32]) -> usize
 #[inline(never)]
 pub fn search_plain(pair: &Pair, _work: &mut [u32], _rows: &mut [u32]) -> usize {
     match search::search(&pair.log, &pair.formula, 0, WORDS) {
+        Ok(answer) => answer.width,
+        Err(refusal) => 1000 * refusal.number as usize,
+    }
+}
+
+/// The tuned search of start 0, likewise.
+#[no_mangle]
+#[inline(never)]
+pub fn search_tuned(pair: &Pair, _work: &mut [u32], _rows: &mut [u32]) -> usize {
+    match tuned::search(&pair.log, &pair.formula, 0, WORDS) {
         Ok(answer) => answer.width,
         Err(refusal) => 1000 * refusal.number as usize,
     }
@@ -121,8 +142,10 @@ fn once(what: &str, kind: &str, which: &str, events: usize) -> Option<bool> {
     let called: Call = match (what, which) {
         ("analysis", "product") => bench_product,
         ("analysis", "plain") => bench_plain,
+        ("analysis", "tuned") => bench_tuned,
         ("search", "product") => search_product,
         ("search", "plain") => search_plain,
+        ("search", "tuned") => search_tuned,
         _ => return None,
     };
     let pair = heavy::pair(kind, events);
@@ -137,111 +160,117 @@ fn once(what: &str, kind: &str, which: &str, events: usize) -> Option<bool> {
     Some(true)
 }
 
-/// The least and the middle of some times.
-struct Times {
-    least: Duration,
-    middle: Duration,
-}
+/// What is timed, in the order of the columns.
+const NAMES: [&str; 3] = ["product", "plain", "tuned"];
+const ANALYSES: [Call; 3] = [bench_product, bench_plain, bench_tuned];
+const SEARCHES: [Call; 3] = [search_product, search_plain, search_tuned];
 
-impl Times {
-    fn of(mut times: Vec<Duration>) -> Times {
-        times.sort();
-        Times {
-            least: times[0],
-            middle: times[times.len() / 2],
-        }
-    }
-}
+/// An analysis with all seats taken is as long as a thousand such searches: it
+/// is timed up to so many events.
+const MOST_FULL: usize = 200;
 
 fn milliseconds(time: Duration) -> f64 {
     time.as_secs_f64() * 1e3
 }
 
-fn line(what: &str, kind: Kind, product: Vec<Duration>, plain: Vec<Duration>, note: &str) {
-    let (product, plain) = (Times::of(product), Times::of(plain));
+/// One line of the table, with the least of the times of each.
+fn line(what: &str, kind: Kind, times: [Duration; 3], note: &str) {
+    let [product, plain, tuned] = times.map(milliseconds);
     println!(
-        "{what:8} {:9} {:11.4} {:11.4} {:11.4} {:11.4} {:7.2}  {note}",
+        "{what:8} {:9} {product:11.4} {plain:11.4} {tuned:11.4} {:9.2} {:9.2}  {note}",
         kind.name(),
-        milliseconds(product.least),
-        milliseconds(product.middle),
-        milliseconds(plain.least),
-        milliseconds(plain.middle),
-        product.least.as_secs_f64() / plain.least.as_secs_f64(),
+        product / plain,
+        product / tuned,
     );
 }
 
-/// False if the two differ anywhere.
+/// False if any two differ anywhere.
 fn measure(options: &Options) -> bool {
     println!(
-        "milliseconds on the processor, least and middle of {}; ratio of the least",
+        "milliseconds on the processor, least of {}; ratios are those of the product",
         options.repeat
     );
+    let [product, plain, tuned] = NAMES;
     println!(
-        "{:18} {:>11} {:>11} {:>11} {:>11} {:>7}",
-        "", "product", "product", "plain", "plain", "ratio"
+        "{:18} {product:>11} {plain:>11} {tuned:>11} {:>9} {:>9}",
+        "", "to plain", "to tuned"
     );
     let mut same = true;
     for &kind in &options.kinds {
         let pair = heavy::pair(kind, options.events);
-        // An analysis with all seats taken would be a thousand such searches.
-        let searched_only = matches!(kind, Kind::Full | Kind::Gather);
-        same &= searched_only || measure_analysis(kind, &pair, options);
+        let full = matches!(kind, Kind::Full | Kind::Gather);
+        if !full || options.events <= MOST_FULL {
+            same &= measure_analysis(kind, &pair, options);
+        }
         same &= measure_search(kind, &pair, options);
-    }
-    if !same {
-        println!("the answers differ");
     }
     same
 }
 
+/// Times the analysis of all starts, once all rows agree.
 fn measure_analysis(kind: Kind, pair: &Pair, options: &Options) -> bool {
-    let (mut product, mut plain) = (Vec::new(), Vec::new());
-    let mut same = true;
-    for _ in 0..options.repeat {
-        let (time, answer, rows) = call(bench_product, pair, options.events);
-        product.push(time);
-        let (time, plain_answer, plain_rows) = call(bench_plain, pair, options.events);
-        plain.push(time);
-        same &= answer == plain_answer && rows == plain_rows;
+    let answers = ANALYSES.map(|which| {
+        let (time, answer, rows) = call(which, pair, options.events);
+        (time, (answer, rows))
+    });
+    let [product, plain, tuned] = &answers;
+    if product.1 != plain.1 || tuned.1 != plain.1 {
+        println!("analysis {:9} the rows differ", kind.name());
+        return false;
     }
-    let note = format!(
-        "{} events, {} bytes of formula",
-        options.events,
-        pair.formula.len()
-    );
-    line("analysis", kind, product, plain, &note);
-    same
+    // The first round has been timed already.
+    let mut least = answers.map(|(time, _)| time);
+    for _ in 1..options.repeat {
+        for (least, which) in least.iter_mut().zip(ANALYSES) {
+            *least = call(which, pair, options.events).0.min(*least);
+        }
+    }
+    let (events, bytes) = (options.events, pair.formula.len());
+    let note = format!("{events} events, {bytes} bytes of formula");
+    line("analysis", kind, least, &note);
+    true
 }
 
 /// The time of one call, over as many as it takes to measure it.
-fn timed<T>(mut call: impl FnMut() -> T) -> (Duration, T) {
+fn timed(mut call: impl FnMut() -> usize) -> Duration {
     let begin = clock::now();
     let mut calls = 0;
     loop {
-        let answer = black_box(call());
+        black_box(call());
         calls += 1;
         let passed = clock::now() - begin;
         if passed >= LEAST {
-            return (passed / calls, answer);
+            return passed / calls;
         }
     }
 }
 
+/// Times the search of start 0, once all answers agree.
 fn measure_search(kind: Kind, pair: &Pair, options: &Options) -> bool {
-    let (log, formula) = (&pair.log, &pair.formula);
-    let (mut product, mut plain) = (Vec::new(), Vec::new());
     let mut work = vec![0; WORDS];
-    let mut same = true;
-    let mut note = String::new();
-    for _ in 0..options.repeat {
-        let (time, found) = timed(|| product::search(log, formula, 0, &mut work));
-        product.push(time);
-        let (time, answer) = timed(|| search::search(log, formula, 0, WORDS));
-        plain.push(time);
-        same &=
-            answer.is_ok_and(|answer| (answer.count, answer.width) == (found.steps, found.width));
-        note = format!("start 0, {} steps, width {}", found.steps, found.width);
+    let answer = search::search(&pair.log, &pair.formula, 0, WORDS);
+    let tuned = tuned::search(&pair.log, &pair.formula, 0, WORDS);
+    let found = product::search(&pair.log, &pair.formula, 0, &mut work);
+    let agrees = |answer: &Answer| {
+        let events = answer.events.map(|n| n as u32);
+        let steps = answer.steps.map(|number| number as u32);
+        let lists = (events, steps, answer.values);
+        let numbers = (answer.verdict as usize, answer.count, answer.width);
+        found.refused.number == 0
+            && numbers == (found.verdict, found.steps, found.width)
+            && lists == (found.events, found.numbers, found.values)
+    };
+    if tuned != answer || !answer.as_ref().is_ok_and(agrees) {
+        println!("search   {:9} the answers differ", kind.name());
+        return false;
     }
-    line("search", kind, product, plain, &note);
-    same
+    let mut least = [Duration::MAX; 3];
+    for _ in 0..options.repeat {
+        for (least, which) in least.iter_mut().zip(SEARCHES) {
+            *least = timed(|| which(black_box(pair), &mut work, &mut [])).min(*least);
+        }
+    }
+    let note = format!("start 0, {} steps, width {}", found.steps, found.width);
+    line("search", kind, least, &note);
+    true
 }

@@ -74,7 +74,7 @@ impl Setting<'_> {
     }
 
     /// The trends of what a step's guard names while the configuration waits.
-    fn trends(&self, config: &Config, step: &Step) -> Trends {
+    pub fn trends(&self, config: &Config, step: &Step) -> Trends {
         // What takes a field's value next rises if the field does.
         let fresh = |field: usize| match self.log.rising[field] {
             true => Trend::RISING,

@@ -13,20 +13,20 @@ use std::collections::BTreeMap;
 /// trails that are compared neither is a beginning of the other, so unused
 /// entries never decide.
 #[derive(Clone, Copy, PartialEq, Eq, PartialOrd, Ord)]
-struct Trail {
-    events: [u16; MOST_RUN],
-    steps: [u8; MOST_RUN],
-    length: usize,
+pub struct Trail {
+    pub events: [u16; MOST_RUN],
+    pub steps: [u8; MOST_RUN],
+    pub length: usize,
 }
 
 impl Trail {
-    const EMPTY: Trail = Trail {
+    pub const EMPTY: Trail = Trail {
         events: [0; MOST_RUN],
         steps: [0; MOST_RUN],
         length: 0,
     };
 
-    fn with(&self, n: usize, number: usize) -> Trail {
+    pub fn with(&self, n: usize, number: usize) -> Trail {
         let mut longer = *self;
         longer.events[self.length] = n as u16;
         longer.steps[self.length] = number as u8;
@@ -34,7 +34,7 @@ impl Trail {
         longer
     }
 
-    fn run(&self, end: Config) -> Run {
+    pub fn run(&self, end: Config) -> Run {
         let used = self.length;
         Run {
             events: self.events[..used].iter().map(|&n| n.into()).collect(),
