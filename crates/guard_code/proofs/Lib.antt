@@ -2,4 +2,5 @@
 pub mod Tallies
 pub mod GuardOnBytes
 pub mod Packing
+pub mod Deciding
 pub mod TrendOnBytes

@@ -266,7 +266,7 @@ module _ {depth at : ℕ} {part : List ℕ} {o : ℕ} (c : Command depth at part
   pub shallower : (t : ℕ) → depth ≡ t → depth - 1 < t
   shallower t e = omega (arith, c .deep)
 
-  first-byte : getD (drop at part) 0 0 ≡ o
+  pub first-byte : getD (drop at part) 0 0 ≡ o
   first-byte = byte-behind part at ∙ sym (c .byte)
 
   behind-command : (leaf : List ℕ → ℕ)
@@ -297,7 +297,7 @@ module _ {depth at : ℕ} {leaf : List ℕ → ℕ} {part : List ℕ} {o x : ℕ
       let h : at + (1 + a .used) ≡ k = omega (arith, p .first .next) in
       rw (drop-drop (1 + a .used) at part, h)
 
-  behind-first : {k : ℕ} → k ≡ x / 4294967296 → (o ≡ 0x28 → ⊥)
+  pub behind-first : {k : ℕ} → k ≡ x / 4294967296 → (o ≡ 0x28 → ⊥)
       → compound depth leaf (drop at part)
       ≡ evaluatedSecond (evaluated (depth - 1) leaf) (drop at part) (operand depth leaf part (at + 1)) (operand depth leaf part k)
   unfolding evaluatedFirst
@@ -335,7 +335,7 @@ module _ {depth at : ℕ} {leaf : List ℕ → ℕ} {part : List ℕ} {o x k y :
       (rw (← p .before .first .value, ← p .second .value, ← f, ← g, ← i) (q .0))
       (omega (arith, p .place, p .before .first .next, p .second .next, q .1))
 
-  third-place : {m : ℕ} → m ≡ y / 4294967296 → drop (1 + a .used + b .used) (drop at part) ≡ drop m part
+  pub third-place : {m : ℕ} → m ≡ y / 4294967296 → drop (1 + a .used + b .used) (drop at part) ≡ drop m part
   third-place {m} e =
       let h : at + (1 + a .used + b .used) ≡ m = omega (arith, p .place, p .before .first .next, p .second .next) in
       rw (drop-drop (1 + a .used + b .used) at part, h)
@@ -395,11 +395,11 @@ laid-long values counters tallies e h =
     ))
 
 -- the guard at an offset, lent as the part behind its command
-pub guard-read : (values counters tallies leaves f : List ℕ) (at : ℕ) {o e v : ℕ} → o ≡ getD f at 0 → o ≡ 0x15
-    → leaves ≡ pad 8 0 values ++ (pad 12 0 tallies ++ counters) → Packed e 0 (evaluated 8 (leafIn leaves) (rest f (at + 1)))
-    → v ≡ e % 4294967296 → truth v ≡ guardAt (leafValue values counters tallies) f at
+pub guard-read : (values counters tallies leaves f : List ℕ) (at : ℕ) {o : ℕ} {r : Bool} → o ≡ getD f at 0 → o ≡ 0x15
+    → leaves ≡ pad 8 0 values ++ (pad 12 0 tallies ++ counters) → r ≡ truth ((evaluated 8 (leafIn leaves) (rest f (at + 1))) .value)
+    → r ≡ guardAt (leafValue values counters tallies) f at
 unfolding guardAt leafValue
-guard-read values counters tallies leaves f at p k q h g = rw (← p, k, g, h .value, q, rest-drop f (at + 1))
+guard-read values counters tallies leaves f at p k q h = h ∙ rw (← p, k, q, rest-drop f (at + 1))
 
 pub guard-none : (leaf : List ℕ → ℕ) (f : List ℕ) (at : ℕ) {o : ℕ} → o ≡ getD f at 0 → (o ≡ 0x15 → ⊥) → true ≡ guardAt leaf f at
 unfolding guardAt

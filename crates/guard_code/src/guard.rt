@@ -2,8 +2,9 @@
 ghost use mathlib.Core.Path.{_≡_};
 ghost use Prim.Native.Nat.{_-_, _+_, _%_, _/_, _<_, _≤_, min};
 ghost use lib.ListN.{getD, length, drop};
-ghost use Rattle.guard_code.specs.inner.Bytes.{operandsOf, applied, leafFirst, leafIn, leafValue, leafWidth, leafUsed, compound, guardAt};
+ghost use Rattle.guard_code.specs.inner.Bytes.{operandsOf, applied, leafFirst, leafIn, leafValue, leafWidth, leafUsed, compound, evaluated, guardAt};
 ghost use Rattle.guard_code.specs.inner.Packed.{most, Packed, ConstantPacked, LeafPacked, Laid};
+ghost use Rattle.machine.specs.Guard.{truth};
 
 // "ADD stops at 4294967295".
 pub fn sum(a: u32, b: u32) -> u32
@@ -197,6 +198,46 @@ fn evaluate(part: &[u8], at: usize, leaves: &[u32; 36], depth: usize) -> usize
     pack(apply(command, value_in(a), value_in(b), 0), third)
 }
 
+// The value of the operand at an offset, a command with or without operands, and the place behind it.
+fn operand(part: &[u8], at: usize, leaves: &[u32; 36], depth: usize) -> usize
+    requires { ⌜ (at + most depth < 4294967296) × (length (now leaves) ≡ 36) ⌝ }
+    ensures { λ r. ⌜ Packed r at (evaluated depth (leafIn (now (leaves .entry))) (drop at (now (part .entry)))) ⌝ }
+{
+    let a = leaf(part, at, leaves);
+    if a == 0 {
+        return evaluate(part, at, leaves, depth);
+    }
+    a
+}
+
+// Whether the expression at an offset is nonzero. AND, OR and IF read no operand that their first makes needless.
+fn holds_at(part: &[u8], at: usize, leaves: &[u32; 36], depth: usize) -> bool
+    requires { ⌜ (at + most depth < 4294967296) × (length (now leaves) ≡ 36) ⌝ }
+    ensures { λ r. ⌜ r ≡ truth ((evaluated depth (leafIn (now (leaves .entry))) (drop at (now (part .entry)))) .value) ⌝ }
+{
+    let command = base::byte_at(part, at);
+    if 0 < depth && 0x29 <= command && command <= 0x2B {
+        let inner = depth - 1;
+        let a = operand(part, at + 1, leaves, inner);
+        let second = next_in(a);
+        if value_in(a) == 0 {
+            if command == 0x29 {
+                return false;
+            }
+            if command == 0x2A {
+                return holds_at(part, second, leaves, inner);
+            }
+            let b = operand(part, second, leaves, inner);
+            return holds_at(part, next_in(b), leaves, inner);
+        }
+        if command == 0x2A {
+            return true;
+        }
+        return holds_at(part, second, leaves, inner);
+    }
+    0 < value_in(operand(part, at, leaves, depth))
+}
+
 // The leaves' values with more of them, behind the first n.
 fn lay(leaves: &mut [u32; 36], n: usize, more: &[u32])
     requires { ⌜ n + length (now more) ≤ 36 ⌝ }
@@ -227,11 +268,7 @@ pub fn guard_holds(
         lay(&mut leaves, 20, &counters);
         let from = at + 1;
         let part = &f[from..];
-        let mut e = leaf(part, 0, &leaves);
-        if e == 0 {
-            e = evaluate(part, 0, &leaves, 8);
-        }
-        return 0 < value_in(e);
+        return holds_at(part, 0, &leaves, 8);
     }
     true
 }

@@ -1,7 +1,7 @@
 -- Expiry over the formula's bytes: what each function of the code computes, and that on a step's bytes it is the definition's.
 use Prim.Native.Nat.{ℕ, _+_, _<_, _≤_}
 use mathlib.Core.Path.{_≡_, refl, ap, sym, _∙_}
-use mathlib.Core.Bool.{Bool, true, false, cond, not, _&&_, _||_, and-assoc}
+use mathlib.Core.Bool.{Bool, true, false, cond, not, _&&_, _||_, and-assoc, and-false, and-true}
 use mathlib.Core.List.{List, [], _∷_, _++_}
 use mathlib.Core.Option.{Option, none, some}
 use native.Mathlib.Omega.{arith}
@@ -36,7 +36,7 @@ pub lapsed-out : (f : List ℕ) (at : ℕ) (c : Configuration) (fresh rising : L
 unfolding lapsed
 lapsed-out f at c fresh rising event h = rw (le-leb (length f) at h)
 
--- the code's three ways out behind the walk
+-- the ways out behind the walk
 module _ (f : List ℕ) (at : ℕ) (c : Configuration) (fresh rising : List Bool) (event : Values) (w : Walked) (in-file : at < length f)
     (e : w ≡ walked f at c rising event) where
   pub lapsed-due : w .due ≡ true → true ≡ lapsed f at c fresh rising event
@@ -44,12 +44,20 @@ module _ (f : List ℕ) (at : ℕ) (c : Configuration) (fresh rising : List Bool
   lapsed-due d = rw (lt-leb (length f) at in-file, ← e, d)
 
   module _ (g : Gained) (k : g ≡ cond (w .gathers) (gained f at (c .tallies) fresh rising event) (kept (c .tallies))) where
-    pub lapsed-guard : (counters : List ℕ) (b v : Bool) → w .due ≡ false → counters ≡ raised (c .counters) (c .state)
-        → b ≡ fallsBehind f (w .at) (c .held) (w .grows) g → b ≡ true → v ≡ guardBehind f w counters (g .tallies)
-        → not v ≡ lapsed f at c fresh rising event
-    unfolding lapsed
-    lapsed-guard counters b v d n p q r =
-        let i = gains-by f at c fresh rising event w g e k in rw (lt-leb (length f) at in-file, ← e, ← i, d, ← n, ← p, q, ← r)
+    -- the guard's value decides where it is not 0, and where it is 0 its trend does
+    module _ (counters : List ℕ) (v : Bool) (d : w .due ≡ false) (n : counters ≡ raised (c .counters) (c .state))
+        (r : v ≡ guardBehind f w counters (g .tallies)) where
+      pub lapsed-held : v ≡ true → false ≡ lapsed f at c fresh rising event
+      unfolding lapsed
+      lapsed-held q =
+          let i = gains-by f at c fresh rising event w g e k in
+          rw (lt-leb (length f) at in-file, ← e, ← i, d, ← n, ← r, q) (sym (and-false (fallsBehind f (w .at) (c .held) (w .grows) g)))
+
+      pub lapsed-guard : (b : Bool) → v ≡ false → b ≡ fallsBehind f (w .at) (c .held) (w .grows) g → b ≡ lapsed f at c fresh rising event
+      unfolding lapsed
+      lapsed-guard b q p =
+          let i = gains-by f at c fresh rising event w g e k in
+          rw (lt-leb (length f) at in-file, ← e, ← i, d, ← n, ← r, q, ← p) (sym (and-true b))
 
     pub lapsed-not : (b : Bool) → w .due ≡ false → b ≡ fallsBehind f (w .at) (c .held) (w .grows) g → b ≡ false
         → false ≡ lapsed f at c fresh rising event

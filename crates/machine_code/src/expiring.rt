@@ -53,14 +53,14 @@ pub fn expired(
     }
     let before = c.tallies;
     let g = gains(f, at, w.gathers, before, fresh, rises, fields, there);
+    let values = w.values;
+    let tallies = g.tallies;
+    let old = c.counters;
+    let counters = raise(old, c.state);
+    if guard_holds(f, w.at, values, counters, tallies) {
+        return false;
+    }
     let held = c.held;
     let grows = w.grows;
-    if falls_behind(f, w.at, held, grows, g) {
-        let values = w.values;
-        let tallies = g.tallies;
-        let old = c.counters;
-        let counters = raise(old, c.state);
-        return !guard_holds(f, w.at, values, counters, tallies);
-    }
-    false
+    falls_behind(f, w.at, held, grows, g)
 }

@@ -62,3 +62,25 @@ pub fn fire(f: &[u8], at: usize, c: Configuration, fresh: [bool; 32], event: Eve
         config,
     }
 }
+
+// Whether the STEP at an offset fires on an event: the same as of `fire`, without the configuration that it leaves.
+pub fn passes(f: &[u8], at: usize, c: Configuration, fresh: [bool; 32], event: Event) -> bool
+    ensures { λ r. ⌜ r ≡ (fired (now (f .entry)) at c fresh (inEvent event)) .fires ⌝ }
+{
+    if f.len() <= at {
+        return false;
+    }
+    let fields = event.values;
+    let there = event.present;
+    let w = walk(f, at, c, [false; 8], fields, there);
+    if !w.passes {
+        return false;
+    }
+    let values = w.values;
+    let before = c.tallies;
+    let g = gains(f, at, w.gathers, before, fresh, [false; 8], fields, there);
+    let tallies = g.tallies;
+    let old = c.counters;
+    let counters = raise(old, c.state);
+    guard_holds(f, w.at, values, counters, tallies)
+}

@@ -1,5 +1,5 @@
 -- The threads of the slots: storing into one slot leaves every other slot's and the other half's threads alone.
-use Prim.Native.Nat.{ℕ, zero, suc, _+_, _-_, _<_, _≤_}
+use Prim.Native.Nat.{ℕ, zero, suc, _+_, _-_, _<_, _≤_, min}
 use mathlib.Core.Path.{_≡_, refl, ap, sym, _∙_}
 use mathlib.Core.Bool.{Bool, true, false}
 use mathlib.Core.List.{List, [], _∷_, _++_}
@@ -7,17 +7,36 @@ use native.Mathlib.Numerals.{add-one}
 use native.Mathlib.Omega.{arith}
 use borrow.Author.Tests.{ltb-true, ltb-false}
 use lib.Dec.{ltb}
-use lib.ListN.{length, getD, take, drop, set}
-use lib.Seq.{getD-drop}
+use lib.ListN.{length, getD, take, drop, set, length-drop}
+use lib.Seq.{getD-drop, drop-drop, take-take}
+use Rattle.runs.specs.inner.Order.{order}
 use Rattle.slots.specs.declared.Thread.{Thread}
-use Rattle.slots.specs.inner.Threads.{Sized}
+use Rattle.slots.specs.inner.Threads.{Sized, trailOf, wordOrder}
 use Rattle.slots.specs.inner.Words.{wordsOf, threadOf, threadAt, put, place, threadsFrom, list}
-use Rattle.slots.proofs.Parts.{drop-put, drop-put-behind, part-put-before}
+use Rattle.slots.proofs.Parts.{part-length, drop-put, drop-put-behind, part-put-before}
+use Rattle.slots.proofs.Trails.{later-is}
 use Rattle.slots.proofs.Words.{thread-take, thread-of-words, words-length}
 
 -- the thread of a slot's part is that of the words from where it begins
 pub part-thread : (l : List ℕ) (a e p : ℕ) → a ≡ p → e ≡ a + 96 → threadOf (take (e - a) (drop a l)) ≡ threadAt l p
 part-thread l a e p q h = thread-take (e - a) (drop a l) (omega arith) ∙ ap (threadAt l) q
+
+-- a part of the words from where a slot's half begins
+pub slot-part : (l : List ℕ) (a e p j n : ℕ) → a ≡ p + j → e ≡ a + n → take (e - a) (drop a l) ≡ take n (drop j (drop p l))
+slot-part l a e p j n q h =
+    let d : e - a ≡ n = omega arith in
+    ap (λ i. take i (drop a l)) d ∙ ap (λ i. take n (drop i l)) q ∙ ap (take n) (sym (drop-drop j p l))
+
+-- a trail's words compared where they stand
+pub later-there : (l : List ℕ) (b : Thread) (a m p k n : ℕ) → a ≡ p + 46 → m ≡ a + k → p + 78 ≤ length l → length (b .trail) ≡ 32
+    → k ≡ min (threadAt l p .steps) 32 → n ≡ min (b .steps) 32
+    → wordOrder (take (m - a) (drop a l)) (take n (b .trail)) ≡ order (trailOf (threadAt l p)) (trailOf b)
+unfolding threadOf
+later-there l b a m p k n q h z s e f =
+    let d : length (drop p l) ≡ length l - p = length-drop p l in
+    let w : take (m - a) (drop a l) ≡ take k (threadAt l p .trail) = slot-part l a m p 46 k q h
+    ∙ sym (take-take k 32 (drop 46 (drop p l)) (omega arith)) in
+    rw w (later-is (threadAt l p) b (part-length 46 32 (drop p l) (omega arith)) s k n e f)
 
 module _ (l : List ℕ) (t : Thread) (s : Sized t) where
   -- where a thread was stored it is read back

@@ -14,7 +14,8 @@ use Rattle.runs.specs.Order.{events, numbers}
 use Rattle.runs.specs.inner.Order.{order, lex, then}
 use Rattle.slots.specs.declared.Thread.{Thread}
 use Rattle.slots.specs.declared.Side.{Side}
-use Rattle.slots.specs.inner.Threads.{entryOf, trailOf, Sized, comesAfter, withStep, Extended, key, sideOf, greaterOf}
+use Rattle.slots.specs.declared.Side.the-variants.{Lesser, Equal, Greater}
+use Rattle.slots.specs.inner.Threads.{entryOf, trailOf, Sized, comesAfter, withStep, Extended, key, sideOf, wordOrder}
 
 -- a trail has as many entries as steps were taken, 32 at most
 pub trail-length : (t : Thread) → Sized t → length (trailOf t) ≡ min (t .steps) 32
@@ -44,21 +45,35 @@ module _ (t : Thread) (s : length (t .trail) ≡ 32) (m : ℕ) (h : m ≡ min (t
   unfolding trailOf
   trail-numbers = ap (map (key true)) (take-capped (t .trail) (t .steps) m s h) ∙ sym (map-map (λ (x : Entry). x .step) entryOf (take (t .steps) (t .trail)))
 
-greater-then : (o p : Ordering) → greaterOf (sideOf o) (sideOf p) ≡ comesAfter (then o p)
-greater-then Ordering·lt p = refl
-greater-then Ordering·gt p = refl
-greater-then Ordering·eq Ordering·lt = refl
-greater-then Ordering·eq Ordering·eq = refl
-greater-then Ordering·eq Ordering·gt = refl
+-- the comparison that a side stands for
+abbrev pub orderOf : Side → Ordering
+orderOf Lesser = Ordering·lt
+orderOf Equal = Ordering·eq
+orderOf Greater = Ordering·gt
+
+told : (o : Ordering) (s t : Side) → s ≡ sideOf o → s ≡ t → o ≡ orderOf t
+told o s t e h = back o ∙ ap orderOf (sym e ∙ h)
+  where
+    back : (o : Ordering) → o ≡ orderOf (sideOf o)
+    back Ordering·lt = refl
+    back Ordering·eq = refl
+    back Ordering·gt = refl
+
+module _ (a b : List ℕ) (s : Side) (e : s ≡ sideOf (lex (map (key false) a) (map (key false) b))) where
+  -- the events decide where they differ
+  pub by-events : (u : Side) → s ≡ u → comesAfter (then (orderOf u) (lex (map (key true) a) (map (key true) b))) ≡ comesAfter (wordOrder a b)
+  unfolding wordOrder
+  by-events u h = ap (λ o. comesAfter (then o (lex (map (key true) a) (map (key true) b)))) (sym (told (lex (map (key false) a) (map (key false) b)) s u e h))
+
+  -- where they are equal the step numbers do
+  pub by-numbers : s ≡ Equal → (t u : Side) → t ≡ sideOf (lex (map (key true) a) (map (key true) b)) → t ≡ u → comesAfter (orderOf u) ≡ comesAfter (wordOrder a b)
+  by-numbers h t u f k = ap comesAfter (sym (told (lex (map (key true) a) (map (key true) b)) t u f k)) ∙ by-events Equal h
 
 -- first by the events, then by the step numbers: the order of the trails
-pub later-is : (a b : Thread) → length (a .trail) ≡ 32 → length (b .trail) ≡ 32 → (m n : ℕ) → m ≡ min (a .steps) 32 → n ≡ min (b .steps) 32 → (e f : Side)
-    → e ≡ sideOf (lex (map (key false) (take m (a .trail))) (map (key false) (take n (b .trail))))
-    → f ≡ sideOf (lex (map (key true) (take m (a .trail))) (map (key true) (take n (b .trail)))) → greaterOf e f ≡ comesAfter (order (trailOf a) (trailOf b))
-unfolding order
-later-is a b s t m n h k e f p q =
-    rw (p, q, trail-events a s m h, trail-events b t n k, trail-numbers a s m h, trail-numbers b t n k)
-    (greater-then (lex (events (trailOf a)) (events (trailOf b))) (lex (numbers (trailOf a)) (numbers (trailOf b))))
+pub later-is : (a b : Thread) → length (a .trail) ≡ 32 → length (b .trail) ≡ 32 → (m n : ℕ) → m ≡ min (a .steps) 32 → n ≡ min (b .steps) 32
+    → wordOrder (take m (a .trail)) (take n (b .trail)) ≡ order (trailOf a) (trailOf b)
+unfolding order wordOrder
+later-is a b s t m n h k = rw (trail-events a s m h, trail-events b t n k, trail-numbers a s m h, trail-numbers b t n k)
 
 -- a trail with one word more has one entry more
 pub extended : (t : Thread) (event number : ℕ) → Sized t → t .steps < 32 → number < 8 → Extended t event number (withStep t event number)

@@ -9,7 +9,7 @@ ghost use lib.ListN.{length, getD, drop};
 ghost use Rattle.runs.specs.inner.Order.{lex, order};
 ghost use Rattle.base.specs.Lists.{sameList};
 ghost use Rattle.base.specs.Mask.{bit};
-ghost use Rattle.slots.specs.inner.Threads.{originThread, trailOf, sameWords, comesAfter, Extended, key, sideOf, greaterOf};
+ghost use Rattle.slots.specs.inner.Threads.{originThread, trailOf, sameWords, comesAfter, Extended, key, sideOf, wordOrder};
 ghost use Rattle.slots.specs.inner.Words.{isSet, wordsOf, threadOf, threadAt, put, place, FoundFrom, InsertedAt, KeptAt};
 
 // A configuration with its trail: the number of steps taken and, for each of them, event * 8 + step number.
@@ -150,6 +150,27 @@ pub fn load_slot(work: &[u32], slot: usize, half: usize) -> Thread
     load(&work[a..e])
 }
 
+// The variables that a thread holds, with their values.
+pub struct Bound {
+    pub held: [bool; 8],
+    pub values: [u32; 8],
+}
+
+// The held variables of a slot's thread in one half, with their values.
+pub fn bound_at(work: &[u32], slot: usize, half: usize) -> Bound
+    requires { ⌜ (slot * 192 + 192 ≤ length (now work)) × (half < 2) ⌝ }
+    ensures { λ r. ⌜ (r .held ≡ (threadAt (now (work .entry)) (place half slot)) .config .held) × (r .values ≡ (threadAt (now (work .entry)) (place half slot)) .config .values) ⌝ }
+{
+    let a = offset(slot, half);
+    let f = a + 1;
+    let v = a + 9;
+    let e = a + 17;
+    let held = flags_of(&work[f..v]);
+    let mut values = [0u32; 8];
+    write(&mut values, 0, &work[v..e]);
+    Bound { held, values }
+}
+
 // The state of a slot's thread in one half.
 pub fn state_at(work: &[u32], slot: usize, half: usize) -> u32
     requires { ⌜ (slot * 192 + 192 ≤ length (now work)) × (half < 2) ⌝ }
@@ -273,18 +294,22 @@ fn compared(a: &[u32], b: &[u32], number: bool) -> Side
     }
 }
 
-// Whether the first comparison, and where that is equal the second, says greater.
-fn greater(events: Side, numbers: Side) -> bool
-    ensures { λ r. ⌜ r ≡ greaterOf events numbers ⌝ }
+// Whether one trail comes after another: first by the events, then by the step numbers, compared only where the events are equal.
+fn comes_after(a: &[u32], b: &[u32]) -> bool
+    ensures { λ r. ⌜ r ≡ comesAfter (wordOrder (now (a .entry)) (now (b .entry))) ⌝ }
 {
+    let events = compared(a, b, false);
     match events {
         Side::Lesser => false,
         Side::Greater => true,
-        Side::Equal => match numbers {
-            Side::Lesser => false,
-            Side::Equal => false,
-            Side::Greater => true,
-        },
+        Side::Equal => {
+            let numbers = compared(a, b, true);
+            match numbers {
+                Side::Lesser => false,
+                Side::Equal => false,
+                Side::Greater => true,
+            }
+        }
     }
 }
 
@@ -303,9 +328,20 @@ pub fn later(a: Thread, b: Thread) -> bool
     let n = capped(b.steps);
     let ours = a.trail;
     let theirs = b.trail;
-    let events = compared(&ours[..m], &theirs[..n], false);
-    let numbers = compared(&ours[..m], &theirs[..n], true);
-    greater(events, numbers)
+    comes_after(&ours[..m], &theirs[..n])
+}
+
+// Whether the trail of a slot's thread comes after b's, compared where its words stand.
+fn later_at(work: &[u32], slot: usize, half: usize, b: Thread) -> bool
+    requires { ⌜ (slot * 192 + 192 ≤ length (now work)) × (half < 2) ⌝ }
+    ensures { λ r. ⌜ r ≡ comesAfter (order (trailOf (threadAt (now (work .entry)) (place half slot))) (trailOf b)) ⌝ }
+{
+    let o = offset(slot, half);
+    let a = o + 46;
+    let m = a + capped(work[o + 45]);
+    let n = capped(b.steps);
+    let theirs = b.trail;
+    comes_after(&work[a..m], &theirs[..n])
 }
 
 // A thread with one step more in its trail.
@@ -352,8 +388,7 @@ pub fn insert_at(
     ensures { λ r. ⌜ InsertedAt half count slots at b (now (work .entry)) (now (work .exit)) r ⌝ }
 {
     if at < count {
-        let a = load_slot(&work[..], at, half);
-        if later(a, b) {
+        if later_at(&work[..], at, half, b) {
             store_slot(work, at, half, b);
         }
         return count;

@@ -21,8 +21,8 @@ use Rattle.threads.specs.declared.Best.{Best}
 use Rattle.threads.specs.declared.Move.{Move}
 use Rattle.threads.specs.inner.Setting.{Fit, conf, thread}
 use Rattle.threads.specs.inner.Event.{bestBy, bestOf, waitingIn}
-use Rattle.threads.specs.inner.Calls.{MovedBy, BestFits, Improved, moveBy}
-use Rattle.threads.proofs.Firing.{firing-next}
+use Rattle.threads.specs.inner.Calls.{MovedBy, BestFits, Improved, EndsNothing, moveBy}
+use Rattle.threads.proofs.Firing.{firing-next, moves-open}
 use Rattle.threads.proofs.Listed.{waiting-next, waiting-done}
 
 module _ (g : Log) (fm : Formula) where
@@ -35,6 +35,13 @@ module _ (g : Log) (fm : Formula) where
   pub improved-none : (best : Best) → BestFits g fm best → Improved g fm best [] best
   unfolding Runs.leastFrom keep
   improved-none best h = improved-same best [] refl h
+
+  -- a thread no step of which ends a run
+  pub improved-nothing : (best : Best) → BestFits g fm best → (t : Thread) (n : ℕ) → EndsNothing g fm t n
+      → Improved g fm best (Runs.moves (machine g fm) n (thread g fm t)) best
+  unfolding Runs.leastFrom
+  improved-nothing best ok t n h =
+      improved-same best _ (ap (Runs.leastFrom (machine g fm) (bestOf g fm best)) (moves-open (machine g fm) n (thread g fm t) h)) ok
 
   -- a step that leads to an open state ends nothing
   pub better-past : (best : Best) → BestFits g fm best → (t : Thread) (n k : ℕ)

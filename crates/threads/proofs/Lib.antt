@@ -1,4 +1,5 @@
 -- Laws of one event of a search: the code of one step, kinds of states, steps, choices, endings, the waiting list.
+pub mod Below
 pub mod Words
 pub mod Charts
 pub mod Tables

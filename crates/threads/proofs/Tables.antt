@@ -149,30 +149,38 @@ module _ (g : Log) (fm : Formula) {l places : List ℕ} (f table : List ℕ) (ru
       (marks g fm f (stepTable fm) rules (s .setting))
 
   module _ (k : ℕ) (h : k < 8) where
-    -- a step that does not fire by its bytes, whatever is new to the lists, does not fire
-    fires-silent : ((fresh : List Bool) → firesAt f table (t .config) fresh (inEvent (m .event)) k ≡ false)
-        → fireAt g fm (conf g fm t) (m .number) k ≡ none
-    fires-silent quiet =
-        by (fireAt g fm (conf g fm t) (m .number) k)
-        (sym (fires-here marks-then (some-fresh (gathered g fm (trailOf t)) (inEvent (m .event))) k h) ∙ quiet marks-then)
+    -- a step that does not fire by its bytes, with marks on what is new to the lists, does not fire
+    fires-silent : (fresh : List Bool) → IsFresh (gathered g fm (trailOf t)) (inEvent (m .event)) fresh
+        → firesAt f table (t .config) fresh (inEvent (m .event)) k ≡ false → fireAt g fm (conf g fm t) (m .number) k ≡ none
+    fires-silent fresh new quiet = by (fireAt g fm (conf g fm t) (m .number) k) (sym (fires-here fresh new k h) ∙ quiet)
       where
-        marks-then : List Bool
-        marks-then = someFresh (gathered g fm (trailOf t)) (inEvent (m .event))
-
         by : (o : Option Config) → isFired o ≡ false → o ≡ none
         by none q = refl
         by (some d) q = absurd (true≢false q)
 
+    -- whatever is new to them
+    abbrev marks-then : List Bool
+    marks-then = someFresh (gathered g fm (trailOf t)) (inEvent (m .event))
+
+    marks-new : IsFresh (gathered g fm (trailOf t)) (inEvent (m .event)) marks-then
+    marks-new = some-fresh (gathered g fm (trailOf t)) (inEvent (m .event))
+
     -- one that the event's table lacks
     pub fires-none : offsetOf table (t .config .state) k ≡ 0 → fireAt g fm (conf g fm t) (m .number) k ≡ none
     unfolding firesAt
-    fires-none z = fires-silent (λ fresh. rw (← step-none f (offsetOf table (t .config .state) k) z))
+    fires-none z = fires-silent marks-then marks-new (rw (← step-none f (offsetOf table (t .config .state) k) z))
 
-    -- one that what the configuration holds keeps from firing
+    -- one that its bytes keep from firing
+    pub fires-not : (fresh : List Bool) → IsFresh (gathered g fm (trailOf t)) (inEvent (m .event)) fresh → (at : ℕ)
+        → at ≡ offsetOf table (t .config .state) k → (fired f at (t .config) fresh (inEvent (m .event))) .fires ≡ false
+        → fireAt g fm (conf g fm t) (m .number) k ≡ none
+    unfolding firesAt
+    fires-not fresh new at e quiet = fires-silent fresh new (rw (← e, quiet, and-false (isStep f at)))
+
+    -- and so whatever is new to the lists
     pub fires-barred : (at : ℕ) → at ≡ offsetOf table (t .config .state) k
         → ((fresh : List Bool) → (fired f at (t .config) fresh (inEvent (m .event))) .fires ≡ false) → fireAt g fm (conf g fm t) (m .number) k ≡ none
-    unfolding firesAt
-    fires-barred at e bars = fires-silent (λ fresh. rw (← e, bars fresh, and-false (isStep f at)))
+    fires-barred at e bars = fires-not marks-then marks-new at e (bars marks-then)
 
     -- a step that fires stands there where it stands in the formula
     pub fires-stands : (d : Config) → fireAt g fm (conf g fm t) (m .number) k ≡ some d

@@ -143,6 +143,15 @@ module _ (g : Log) (fm : Formula) where
       ∙ offered-append n (moveBy g fm t n k) (Runs.firing (machine g fm) (thread g fm t) n (suc k) (s - suc k))
       ∙ ap (λ j. offered g fm n (moveBy g fm t n k) ++ offered g fm n (Runs.firing (machine g fm) (thread g fm t) n j (s - j))) (sym one)
 
+  -- a step that ends runs leaves what those after it leave
+  pub offers-past : (t : Thread) (n k s : ℕ) → k < s → ((d : Config) → fireAt g fm (conf g fm t) n k ≡ some d → final fm d ≡ true)
+      → offered g fm n (Runs.firing (machine g fm) (thread g fm t) n k (s - k))
+      ≡ offered g fm n (Runs.firing (machine g fm) (thread g fm t) n (k + 1) (s - (k + 1)))
+  offers-past t n k s l o =
+      offers-next t n k s l
+      ∙ ap (λ (xs : List (Runs.Thread (machine g fm))). xs ++ offered g fm n (Runs.firing (machine g fm) (thread g fm t) n (k + 1) (s - (k + 1))))
+      (offered-past t n k o)
+
   pub offers-done : (t : Thread) (n k s : ℕ) → s ≤ k → offered g fm n (Runs.firing (machine g fm) (thread g fm t) n k (s - k)) ≡ []
   unfolding Runs.firing keep
   offers-done t n k s l =

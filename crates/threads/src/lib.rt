@@ -13,7 +13,7 @@ ghost use Prim.Native.Nat.{_+_, _*_, _≤_, _<_};
 ghost use lib.Dec.{leb, eqb};
 ghost use lib.ListN.{length, getD};
 ghost use Rattle.threads.specs.inner.Event.{Seated, EndingIs, SettledIs};
-ghost use Rattle.threads.specs.inner.Calls.{MovedIs, ChoiceIs, BetterIs, EndedIs, WaitsIs, OfferIs, OfferMoveIs, OfferMovesIs, RemainIs, IdlesIs, SiftOneIs, SiftIs, MergeIs};
+ghost use Rattle.threads.specs.inner.Calls.{MovedIs, ChoiceIs, BetterIs, MayEndIs, EndedIs, WaitsIs, OfferIs, OfferMoveIs, OfferMovesIs, RemainIs, IdlesIs, SiftOneIs, SiftIs, MergeIs};
 ghost use Rattle.slots.specs.inner.Words.{threadAt, place};
 
 // What stays from event to event: the kind of each state (0 ordinary, 1 committed, 2 accept, 3 reject), which fields
@@ -229,8 +229,35 @@ fn ending_of(
     least
 }
 
-// The least of the best so far and of the runs that end on the event by a step of a slot's thread. A thread none of whose steps the
-// event lets fire is not loaded.
+// Whether a step of a slot's thread may end a run on the event, as far as its state and the variables that it holds tell.
+fn may_end(
+    work: &[u32],
+    slot: usize,
+    half: usize,
+    f: &[u8],
+    table: &[usize],
+    rules: Rules,
+    moment: Moment,
+) -> bool
+    requires { ⌜ (slot * 192 + 192 ≤ length (now work)) × (half < 2) ⌝ }
+    ensures { λ r. ⌜ MayEndIs (now (f .entry)) (now (table .entry)) rules moment (threadAt (now (work .entry)) (place half slot)) r ⌝ }
+{
+    let s = slots::state_at(work, slot, half);
+    if table::is_quiet(table, s) {
+        return false;
+    }
+    let kinds = rules.kinds;
+    let event = moment.event;
+    let values = event.values;
+    let there = event.present;
+    let bound = slots::bound_at(work, slot, half);
+    let held = bound.held;
+    let prior = bound.values;
+    step::can_end(f, table, &kinds, s, &held, &prior, &values, &there)
+}
+
+// The least of the best so far and of the runs that end on the event by a step of a slot's thread. A thread is loaded only where a step
+// of it may end a run, and its trail is compared only where one does.
 fn ending_at(
     best: Best,
     work: &[u32],
@@ -246,11 +273,13 @@ fn ending_at(
     requires { ⌜ Seated seats (now work) × (moment .number < 1024) × (j < seats .count) ⌝ }
     ensures { λ r. ⌜ EndedIs (now (l .entry)) (now (places .entry)) (now (f .entry)) (now (table .entry)) rules moment best (threadAt (now (work .entry)) (place (seats .half) j)) r ⌝ }
 {
-    let s = slots::state_at(work, j, seats.half);
-    if table::is_quiet(table, s) {
+    if !may_end(work, j, seats.half, f, table, rules, moment) {
         return best;
     }
     let t = slots::load_slot(work, j, seats.half);
+    if !step::ends_on(l, places, f, table, rules, moment, t) {
+        return best;
+    }
     ending_of(best, l, places, f, table, rules, moment, t)
 }
 
@@ -369,9 +398,21 @@ fn offer_moves(
     requires { ⌜ Seated seats (now work) × (moment .number < 1024) × (choice .to ≤ 8) ⌝ }
     ensures { λ r. ⌜ OfferMovesIs (now (l .entry)) (now (places .entry)) (now (f .entry)) (now (table .entry)) rules moment seats t choice (now (work .entry)) (now (work .exit)) r ⌝ }
 {
+    let kinds = rules.kinds;
+    let config = t.config;
+    let held = config.held;
+    let prior = config.values;
+    let event = moment.event;
+    let values = event.values;
+    let there = event.present;
     let mut count = seats.count;
-    let mut k = choice.from;
-    while k < choice.to {
+    let mut next = choice.from;
+    while next < choice.to {
+        let k = next;
+        next += 1;
+        if !step::may(f, table, &kinds, config.state, k, false, &held, &prior, &values, &there) {
+            continue;
+        }
         let grown = Seats {
             half: seats.half,
             count,
@@ -381,7 +422,6 @@ fn offer_moves(
         if seats.slots < count {
             return count;
         }
-        k += 1;
     }
     count
 }

@@ -3,8 +3,14 @@ use crate::Moment;
 use crate::Move;
 use crate::Rules;
 use crate::gathered::fresh_at;
+use event_log::Event;
+use machine_code::Configuration;
 use slots::Thread;
-ghost use Rattle.threads.specs.inner.Calls.{EndsIs, FiresIs, LowestIs, HopefulIs};
+ghost use mathlib.Core.Path.{_≡_};
+ghost use mathlib.Core.Bool.{true, not};
+ghost use Prim.Native.Nat.{_<_};
+ghost use Rattle.event_log.specs.Event.{together};
+ghost use Rattle.threads.specs.inner.Calls.{EndsIs, MayIs, CanEndIs, NoneEndsIs, EndsOnIs, FiresIs, LowestIs, HopefulIs};
 
 // Whether step k of a state leads to a state that accepts or rejects: such a step ends runs and leaves nothing to wait.
 pub fn ends_by(f: &[u8], table: &[usize], rules: Rules, state: u32, k: u32) -> bool
@@ -13,6 +19,119 @@ pub fn ends_by(f: &[u8], table: &[usize], rules: Rules, state: u32, k: u32) -> b
     let at = machine_code::steps::step_offset(table, state, k as usize);
     if at < f.len() {
         return crate::is_final(rules, base::byte_at(f, at + 1));
+    }
+    false
+}
+
+// Whether two tests differ.
+fn differ(a: bool, b: bool) -> bool
+    ensures { λ r. ⌜ (r ≡ true → a ≡ not b) ⌝ }
+{
+    if a { !b } else { b }
+}
+
+// Whether step k of a state may end runs on the event, or, with `ends` false, may leave what waits, as far as its target, the event's
+// table, and the variables held by a thread tell. For speed alone: a function that always says so would meet the contract.
+pub fn may(
+    f: &[u8],
+    table: &[usize],
+    kinds: &[u32; 16],
+    state: u32,
+    k: u32,
+    ends: bool,
+    held: &[bool; 8],
+    prior: &[u32; 8],
+    values: &[u32; 8],
+    there: &[bool; 8],
+) -> bool
+    ensures { λ r. ⌜ MayIs (now (f .entry)) (now (table .entry)) (now (kinds .entry)) state (now (held .entry)) (now (prior .entry)) (together (now (there .entry)) (now (values .entry))) k ends r ⌝ }
+{
+    let at = machine_code::steps::step_offset(table, state, k as usize);
+    if at == 0 {
+        return false;
+    }
+    if f.len() <= at {
+        return false;
+    }
+    let kind = guard_code::guard::value_of(kinds, base::byte_at(f, at + 1));
+    if differ(2 <= kind, ends) {
+        return false;
+    }
+    !machine_code::marks::bars(f, at, held, prior, values, there)
+}
+
+// Whether some step of a state may end runs on the event.
+pub fn can_end(
+    f: &[u8],
+    table: &[usize],
+    kinds: &[u32; 16],
+    state: u32,
+    held: &[bool; 8],
+    prior: &[u32; 8],
+    values: &[u32; 8],
+    there: &[bool; 8],
+) -> bool
+    ensures { λ r. ⌜ CanEndIs (now (f .entry)) (now (table .entry)) (now (kinds .entry)) state (now (held .entry)) (now (prior .entry)) (together (now (there .entry)) (now (values .entry))) r ⌝ }
+{
+    let mut k: u32 = 0;
+    while k < 8 {
+        if may(f, table, kinds, state, k, true, held, prior, values, there) {
+            return true;
+        }
+        k += 1;
+    }
+    false
+}
+
+// Whether step k of a state fires on the event and may end a run.
+fn ends_at(
+    f: &[u8],
+    table: &[usize],
+    kinds: &[u32; 16],
+    c: Configuration,
+    fresh: [bool; 32],
+    event: Event,
+    k: u32,
+) -> bool
+    requires { ⌜ k < 8 ⌝ }
+    ensures { λ r. ⌜ NoneEndsIs (now (f .entry)) (now (table .entry)) (now (kinds .entry)) c fresh event k r ⌝ }
+{
+    let held = c.held;
+    let prior = c.values;
+    let values = event.values;
+    let there = event.present;
+    if !may(f, table, kinds, c.state, k, true, &held, &prior, &values, &there) {
+        return false;
+    }
+    let at = machine_code::steps::step_offset(table, c.state, k as usize);
+    machine_code::firing::passes(f, at, c, fresh, event)
+}
+
+// Whether a thread ends a run on the event. For speed alone: a function that always says so would meet the contract.
+pub fn ends_on(
+    l: &[u8],
+    places: &[usize],
+    f: &[u8],
+    table: &[usize],
+    rules: Rules,
+    moment: Moment,
+    t: Thread,
+) -> bool
+    ensures { λ r. ⌜ EndsOnIs (now (l .entry)) (now (places .entry)) (now (f .entry)) (now (table .entry)) rules moment t r ⌝ }
+{
+    let kinds = rules.kinds;
+    let config = t.config;
+    let event = moment.event;
+    let values = event.values;
+    let tallies = config.tallies;
+    let trail = t.trail;
+    let fresh = fresh_at(l, places, f, table, rules, tallies, trail, t.steps, values);
+    let mut k: u32 = 0;
+    while k < 8 {
+        if ends_at(f, table, &kinds, config, fresh, event, k) {
+            return true;
+        }
+        k += 1;
     }
     false
 }
@@ -40,15 +159,6 @@ pub fn fires_at(
     }
     let event = moment.event;
     let values = event.values;
-    let there = event.present;
-    let held = before.held;
-    let prior = before.values;
-    if machine_code::marks::bars(f, at, &held, &prior, &values, &there) {
-        return Move {
-            fires: false,
-            thread: t,
-        };
-    }
     let tallies = before.tallies;
     let trail = t.trail;
     let fresh = fresh_at(l, places, f, table, rules, tallies, trail, t.steps, values);

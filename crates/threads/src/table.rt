@@ -115,6 +115,24 @@ fn mark_entry(
     }
 }
 
+// The same, if there is a step.
+fn mark_step(
+    table: &mut [usize],
+    i: usize,
+    f: &[u8],
+    steps: &[usize],
+    rises: [bool; 8],
+    moment: Moment,
+)
+    requires { ⌜ (length (now table) ≡ 384) × (i < 128) ⌝ }
+    ensures { λ _. ⌜ MarkedIs (now (f .entry)) (now (steps .entry)) rises moment (now (table .entry)) (now (table .exit)) ⌝ }
+{
+    if lists::entry(steps, i) == 0 {
+        return;
+    }
+    mark_entry(table, i, f, steps, rises, moment);
+}
+
 // What the event alone says of the steps of a state.
 fn mark_state(
     table: &mut [usize],
@@ -129,7 +147,7 @@ fn mark_state(
 {
     let mut k: usize = 0;
     while k < 8 {
-        mark_entry(table, s * 8 + k, f, steps, rises, moment);
+        mark_step(table, s * 8 + k, f, steps, rises, moment);
         k += 1;
     }
 }

@@ -1,10 +1,8 @@
 -- `slots::insert_at` meets its contract, by the place.
 use Rattle.slots.proofs.ByPlace.{leaves, inserted-lesser, inserted-kept, inserted-more, inserted-none}
-use Rattle.slots.specs.inner.Words.{threadAt, place}
-use Rattle.slots.specs.inner.Threads.{Sized, trailOf, comesAfter}
-use Rattle.runs.specs.inner.Order.{order}
+use Rattle.slots.specs.inner.Threads.{Sized}
 use denote.Ref.{now}
-use mathlib.Core.Path.{_≡_, ap, sym, _∙_}
+use mathlib.Core.Path.{sym, _∙_}
 use Prim.Native.Nat.{_+_}
 use borrow.Author.Needs.{needs}
 use Rattle.slots.proofs.insert_at.Statement.{statement}
@@ -13,11 +11,8 @@ use Rattle.slots.proofs.insert_at.Tie as tie
 sized : (c : tie.Start) → Sized (c .args .b)
 sized c = record { held-8 = search needs; values-8 = search needs; counters-16 = search needs; tallies-12 = search needs; trail-32 = search needs }
 
-load-slot-requires : tie.Need-load-slot-requires
-load-slot-requires c κs = search needs
-
-later-requires : tie.Need-later-requires
-later-requires c κs = search needs
+later-at-requires : tie.Need-later-at-requires
+later-at-requires c κs = search needs
 
 store-slot-requires : tie.Need-store-slot-requires
 store-slot-requires c κs = search needs
@@ -29,33 +24,28 @@ returns : tie.Need-returns
 returns c =
     let c4 = c .before .before .before .before in
     let c5 = c4 .before in
-    let c6 = c5 .before in
-    let c8 = c6 .before .before in
-    let c10 = c8 .before .before in
-    let a = c10 .args in
-    let s = sized c10 in
+    let c7 = c5 .before .before in
+    let c9 = c7 .before .before in
+    let a = c9 .args in
+    let s = sized c9 in
     let w = now (a .work) in
-    let p = c10 .pre in
-    let e : c5 .later .result ≡ comesAfter (order (trailOf (threadAt w (place (a .half) (a .at)))) (trailOf (a .b))) = c5 .later .ensures
-    ∙ ap (λ t. comesAfter (order (trailOf t) (trailOf (a .b)))) (c6 .load-slot .ensures) in
+    let p = c9 .pre in
     let x = c .before .before .store-slot in
     leaves (a .half) (a .count) (a .slots) (a .at) (a .b) w (a .count) (x .last .0) (x .ensures)
-    (inserted-lesser (a .half) (a .count) (a .slots) (a .b) s w (p .0) (p .1) (p .2) (a .at) (c8 .if1 .taken) (sym e ∙ c4 .if2 .taken))
+    (inserted-lesser (a .half) (a .count) (a .slots) (a .b) s w (p .0) (p .1) (p .2) (a .at) (c7 .if1 .taken) (sym (c5 .later-at .ensures) ∙ c4 .if2 .taken))
 
 same-length-2 : tie.Need-same-length-2
 same-length-2 c = search needs
 
 returns-2 : tie.Need-returns-2
 returns-2 c =
-    let c4 = c .before .before .before .before in
-    let c6 = c4 .before .before in
-    let a = c6 .args in
-    let s = sized c6 in
+    let c3 = c .before .before .before in
+    let c5 = c3 .before .before in
+    let a = c5 .args in
+    let s = sized c5 in
     let w = now (a .work) in
-    let p = c6 .pre in
-    let e : c .before .later .result ≡ comesAfter (order (trailOf (threadAt w (place (a .half) (a .at)))) (trailOf (a .b))) = c .before .later .ensures
-    ∙ ap (λ t. comesAfter (order (trailOf t) (trailOf (a .b)))) (c .before .before .load-slot .ensures) in
-    inserted-kept (a .half) (a .count) (a .slots) (a .b) s w (p .0) (p .1) (p .2) (a .at) (c4 .if1 .taken) (sym e ∙ c .if2 .left)
+    let p = c5 .pre in
+    inserted-kept (a .half) (a .count) (a .slots) (a .b) s w (p .0) (p .1) (p .2) (a .at) (c3 .if1 .taken) (sym (c .before .later-at .ensures) ∙ c .if2 .left)
 
 store-slot-requires-2 : tie.Need-store-slot-requires-2
 store-slot-requires-2 c κs = search needs
@@ -95,8 +85,7 @@ pub insert-at-spec : {M : Type 1} → statement M
 insert-at-spec =
     tie.close
     (tie.spec
-    load-slot-requires
-    later-requires
+    later-at-requires
     store-slot-requires
     same-length
     returns

@@ -7,7 +7,7 @@ use lib.ListN.{length, take, set, replicate}
 use lib.Dec.{eqb}
 use Rattle.base.specs.Lists.{sameList}
 use Rattle.runs.specs.Run.{Entry, Trail}
-use Rattle.runs.specs.inner.Order.{order}
+use Rattle.runs.specs.inner.Order.{order, lex, then}
 use Rattle.machine_code.specs.declared.Configuration.{Configuration}
 use Rattle.slots.specs.declared.Thread.{Thread}
 use Rattle.slots.specs.declared.Side.{Side}
@@ -97,10 +97,6 @@ sideOf Ordering·lt = Lesser
 sideOf Ordering·eq = Equal
 sideOf Ordering·gt = Greater
 
--- 'then by': the second comparison decides where the first is equal
-abbrev pub greaterOf : Side → Side → Bool
-greaterOf Lesser numbers = false
-greaterOf Greater numbers = true
-greaterOf Equal Lesser = false
-greaterOf Equal Equal = false
-greaterOf Equal Greater = true
+-- words of trails compared: first by their events, then by their step numbers
+unfoldable pub wordOrder : List ℕ → List ℕ → Ordering
+wordOrder a b = then (lex (map (key false) a) (map (key false) b)) (lex (map (key true) a) (map (key true) b))

@@ -1,7 +1,7 @@
 -- What each function of one event gives, for every log and formula whose setting it stands in.
 use Prim.Native.Nat.{ℕ, suc, _+_, _-_, _<_, _≤_}
 use mathlib.Core.Path.{_≡_}
-use mathlib.Core.Bool.{Bool, true, false, _&&_}
+use mathlib.Core.Bool.{Bool, true, false, not, _&&_}
 use mathlib.Core.Logic.{_⊎_}
 use mathlib.Core.List.{List, [], _∷_, _++_}
 use mathlib.Core.Option.{Option, none, some}
@@ -9,6 +9,8 @@ use lib.ListN.{length, getD, take}
 use lib.Dec.{eqb, ltb}
 use Rattle.base.specs.Lists.{sameList}
 use Rattle.event_log.specs.Log.{Log, Values, field}
+use Rattle.event_log.specs.Arrays.{inEvent}
+use Rattle.event_log.specs.declared.Event.{Event}
 use Rattle.formula.specs.Formula.{Formula}
 use Rattle.runs.specs.inner.Lists.{only, keep}
 use Rattle.runs.specs.inner.Search as Runs
@@ -16,6 +18,7 @@ use Rattle.runs.specs.inner.Threads.{insertWithin}
 use Rattle.runs.specs.inner.Settle.{stayers, movers, settle}
 use Rattle.machine.specs.Configuration.{Config, same}
 use Rattle.machine.specs.Machine.{machine, fireAt, final}
+use Rattle.machine_code.specs.declared.Configuration.{Configuration}
 use Rattle.machine_code.specs.inner.Bytes.{configOf, offsetOf}
 use Rattle.slots.specs.declared.Thread.{Thread}
 use Rattle.slots.specs.inner.Threads.{trailOf, sameWords, position}
@@ -56,6 +59,39 @@ abbrev pub EndsIs : List ℕ → List ℕ → Rules → ℕ → ℕ → Bool →
 EndsIs f table rules state k r =
     (g : Log) (fm : Formula) (l places : List ℕ) (m : Moment) → Scene g fm l places f table rules m → k < 8
     → (t : Thread) → t .config .state ≡ state → Fit g fm t → (d : Config) → fireAt g fm (conf g fm t) (m .number) k ≡ some d → final fm d ≡ r
+
+-- where step k fires of a thread in this state that holds these, what it leads to accepts or rejects, or does not
+abbrev pub LeadsIs : List ℕ → List ℕ → List ℕ → ℕ → List Bool → List ℕ → Values → ℕ → Bool → Type 0
+LeadsIs f table kinds state held prior event k b =
+    (g : Log) (fm : Formula) (l places : List ℕ) (rules : Rules) (m : Moment) → Scene g fm l places f table rules m → rules .kinds ≡ kinds
+    → inEvent (m .event) ≡ event → (t : Thread) → t .config .state ≡ state → t .config .held ≡ held → t .config .values ≡ prior → Fit g fm t → (d : Config)
+    → fireAt g fm (conf g fm t) (m .number) k ≡ some d → final fm d ≡ b
+
+-- a step that may not end runs does not, and one that may leave nothing that waits ends runs, where it fires at all
+abbrev pub MayIs : List ℕ → List ℕ → List ℕ → ℕ → List Bool → List ℕ → Values → ℕ → Bool → Bool → Type 0
+MayIs f table kinds state held prior event k ends r = r ≡ false → k < 8 → LeadsIs f table kinds state held prior event k (not ends)
+
+abbrev pub CanEndIs : List ℕ → List ℕ → List ℕ → ℕ → List Bool → List ℕ → Values → Bool → Type 0
+CanEndIs f table kinds state held prior event r = r ≡ false → (k : ℕ) → k < 8 → LeadsIs f table kinds state held prior event k false
+
+-- no step of the thread's state that fires on event n leads to a state that accepts or rejects
+abbrev pub EndsNothing : Log → Formula → Thread → ℕ → Type 0
+EndsNothing g fm t n = (k : ℕ) → k < 8 → (d : Config) → fireAt g fm (conf g fm t) n k ≡ some d → final fm d ≡ false
+
+-- of step k, for a thread with this configuration and with marks on what is new to its lists
+abbrev pub NoneEndsIs : List ℕ → List ℕ → List ℕ → Configuration → List Bool → Event → ℕ → Bool → Type 0
+NoneEndsIs f table kinds c fresh event k r =
+    r ≡ false → (g : Log) (fm : Formula) (l places : List ℕ) (rules : Rules) (m : Moment) → Scene g fm l places f table rules m → rules .kinds ≡ kinds
+    → m .event ≡ event → (t : Thread) → t .config ≡ c → Fit g fm t → IsFresh (gathered g fm (trailOf t)) (inEvent event) fresh → (d : Config)
+    → fireAt g fm (conf g fm t) (m .number) k ≡ some d → final fm d ≡ false
+
+abbrev pub EndsOnIs : List ℕ → List ℕ → List ℕ → List ℕ → Rules → Moment → Thread → Bool → Type 0
+EndsOnIs l places f table rules m t r =
+    r ≡ false → (g : Log) (fm : Formula) → Scene g fm l places f table rules m → Fit g fm t → EndsNothing g fm t (m .number)
+
+abbrev pub MayEndIs : List ℕ → List ℕ → Rules → Moment → Thread → Bool → Type 0
+MayEndIs f table rules m t r =
+    r ≡ false → (g : Log) (fm : Formula) (l places : List ℕ) → Scene g fm l places f table rules m → Fit g fm t → EndsNothing g fm t (m .number)
 
 -- some step of the thread's state is not expired (the paper's hopeless) after the event
 abbrev pub HopefulIs : List ℕ → List ℕ → List ℕ → List ℕ → Rules → Moment → Thread → Bool → Type 0

@@ -1,23 +1,20 @@
 -- `guard::guard_holds` meets its contract: the leaves' values are laid out, and the guard is lent as the part behind its command.
 use native.Mathlib.Omega.{arith}
-use mathlib.Core.Logic.{⊎-elim}
 use mathlib.Core.Path.{_≡_, refl}
 use mathlib.Core.List.{_++_}
 use Rattle.base.specs.Lists.{pad}
 use denote.Ref.{now}
 use Rattle.guard_code.specs.inner.Packed.{most}
 use Rattle.guard_code.proofs.GuardOnBytes.{guard-there}
-use Rattle.guard_code.proofs.Packing.{by-leaf, by-operands, laid-leaves, laid-long, guard-read, guard-none}
+use Rattle.guard_code.proofs.Packing.{laid-leaves, laid-long, guard-read, guard-none}
 use borrow.Author.Needs.{needs}
 use Rattle.guard_code.proofs.guard.guard_holds.Statement.{statement}
 use Rattle.guard_code.proofs.guard.guard_holds.Tie as tie
 use Rattle.guard_code.proofs.guard.guard_holds.Reads as reads
 use Rattle.guard_code.proofs.guard.guard_holds.Lts as lts
 use Rattle.base.proofs.byte_at.Reads as byte-at-reads
-use Rattle.guard_code.proofs.guard.evaluate.Reads as evaluate-reads
+use Rattle.guard_code.proofs.guard.holds_at.Reads as holds-at-reads
 use Rattle.guard_code.proofs.guard.lay.Reads as lay-reads
-use Rattle.guard_code.proofs.guard.leaf.Reads as leaf-reads
-use Rattle.guard_code.proofs.guard.value_in.Reads as value-in-reads
 
 -- the values as the calls of `lay` leave them
 laid : (c : lts.After-lay3 (
@@ -25,12 +22,8 @@ laid : (c : lts.After-lay3 (
   byte-at-reads.Learnt,
   lay-reads.Asked,
   lay-reads.Learnt,
-  leaf-reads.Asked,
-  leaf-reads.Learnt,
-  evaluate-reads.Asked,
-  evaluate-reads.Learnt,
-  value-in-reads.Asked,
-  value-in-reads.Learnt,
+  holds-at-reads.Asked,
+  holds-at-reads.Learnt,
 ) reads.Pre reads.Post)
     → let a = c .before .before .before .before .before .before .before .before .before .before .before .before .args in
     c .lay3 .last .0 ≡ pad 8 0 (a .t3) ++ (pad 12 0 (a .t5) ++ a .t4)
@@ -85,33 +78,19 @@ part-part-start c =
 part-part-end : tie.Need-part-part-end
 part-part-end c = search needs
 
-leaf-requires : tie.Need-leaf-requires
-leaf-requires c κs =
+holds-at-requires : tie.Need-holds-at-requires
+unfolding most
+holds-at-requires c κs =
     let x = c .before .before in
     let s = x .before .before .before .before .before .before .before .before .before .before .before .before in
     (omega arith, laid-long (s .args .t3) (s .args .t4) (s .args .t5) (laid x) (omega (arith, s .good)))
 
-evaluate-requires : tie.Need-evaluate-requires
-unfolding most
-evaluate-requires c κs =
-    let x = c .before .before .before .before .before in
-    let s = x .before .before .before .before .before .before .before .before .before .before .before .before in
-    (omega arith, laid-long (s .args .t3) (s .args .t4) (s .args .t5) (laid x) (omega (arith, s .good)))
-
-value-in-requires : tie.Need-value-in-requires
-value-in-requires c κs = search needs
-
 returns : tie.Need-returns
 returns c =
-    let j = c .before in
-    let x = j .before .before .before .before in
+    let x = c .before .before .before in
     let t = x .before .before .before .before .before .before .before .before .before in
     let a = t .before .before .before .args in
-    let e =
-    ⊎-elim (λ w. by-operands (j .before .leaf .ensures) 8 (w .0 .taken) (w .2 .ensures) (w .3)) (λ w. by-leaf (j .before .leaf .ensures) 8 (w .0 .left) (w .1))
-    (j .if2 .came) in
-    guard-read (a .t3) (a .t4) (a .t5) (x .lay3 .last .0) (now (a .f)) (a .at) (t .before .byte-at .ensures .0) (t .if1 .taken) (laid x) e
-    (c .value-in .ensures)
+    guard-read (a .t3) (a .t4) (a .t5) (x .lay3 .last .0) (now (a .f)) (a .at) (t .before .byte-at .ensures .0) (t .if1 .taken) (laid x) (c .holds-at .ensures)
 
 returns-2 : tie.Need-returns-2
 returns-2 c = guard-none _ _ _ (c .before .byte-at .ensures .0) (c .if1 .left)
@@ -131,8 +110,6 @@ guard-holds-spec =
     sub-part
     part-part-start
     part-part-end
-    leaf-requires
-    evaluate-requires
-    value-in-requires
+    holds-at-requires
     returns
     returns-2)

@@ -15,14 +15,14 @@ abbrev μ-loop : tie.MeasureT-loop
 loop-holds : tie.Need-loop-holds Inv-loop μ-loop
 loop-holds c = (omega arith, (refl, λ e. e))
 
-mul-mark-entry : tie.Need-mul-mark-entry Inv-loop μ-loop
-mul-mark-entry c = omega (arith, c .before .before .before .before .before .before .pre)
+mul-mark-step : tie.Need-mul-mark-step Inv-loop μ-loop
+mul-mark-step c = omega (arith, c .before .before .before .before .before .before .pre)
 
-add-mark-entry : tie.Need-add-mark-entry Inv-loop μ-loop
-add-mark-entry c = omega (arith, c .before .before .before .before .before .before .pre, c .before .loop-test .taken)
+add-mark-step : tie.Need-add-mark-step Inv-loop μ-loop
+add-mark-step c = omega (arith, c .before .before .before .before .before .before .pre, c .before .loop-test .taken)
 
-mark-entry-requires : tie.Need-mark-entry-requires Inv-loop μ-loop
-mark-entry-requires c κs =
+mark-step-requires : tie.Need-mark-step-requires Inv-loop μ-loop
+mark-step-requires c κs =
     let p = c .before .before .before .before .before .before .pre in
     (omega (arith, p, c .before .before .loop .inv .1 .0), omega (arith, p, c .before .loop-test .taken))
 
@@ -35,7 +35,7 @@ loop-less c = omega arith
 loop-again : tie.Need-loop-again Inv-loop μ-loop
 loop-again c =
     let i = c .before .before .before .before .before .loop .inv .1 in
-    let more = c .before .before .mark-entry .ensures in
+    let more = c .before .before .mark-step .ensures in
     (omega arith, (more .0 ∙ i .0, λ e. more .1 (i .1 e)))
 
 same-length : tie.Need-same-length Inv-loop μ-loop
@@ -47,4 +47,4 @@ returns c = c .before .loop .inv .1
 pub mark-state-spec : {M : Type 1} → statement M
 mark-state-spec =
     tie.close
-    (tie.spec Inv-loop μ-loop loop-holds mul-mark-entry add-mark-entry mark-entry-requires add-k loop-less loop-again same-length returns)
+    (tie.spec Inv-loop μ-loop loop-holds mul-mark-step add-mark-step mark-step-requires add-k loop-less loop-again same-length returns)
