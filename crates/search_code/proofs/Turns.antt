@@ -21,6 +21,7 @@ use Rattle.event_log.specs.inner.Loading.{loadedAt, markedAt}
 use Rattle.formula.specs.Formula.{Formula}
 use Rattle.runs.specs.inner.Search as Runs
 use Rattle.runs.specs.inner.Search.{endOf}
+use Rattle.runs.proofs.Least.{least-none}
 use Rattle.runs.proofs.Stretch.{end-most, inside}
 use Rattle.machine.specs.Machine.{machine}
 use Rattle.slots.specs.inner.Threads.{originThread}
@@ -53,7 +54,7 @@ module _ (l places f table : List ℕ) (rules : Rules) (m : Moment) (z : Seats) 
   -- no run ends on it, and more wait after it than there are slots
   pub crowded-turn : (more : ℕ) → b .found ≡ false → SettledIs l places f table rules m z before after more → z .slots < more
       → TurnIs l places f table rules m z before after (record { outcome = Crowded; thread = b .thread })
-  crowded-turn more q a h g fm s k = go (a g fm s k)
+  crowded-turn more q a h g fm s k = go (a g fm s k (least-none (machine g fm) _ (no-ending q g fm s k)))
     where
       go : SettledTo g fm (m .number) z before after more → TurnTo g fm (z .half) (z .count) (z .slots) (m .number) before after (b .thread) Crowded
       go (inl x) = absurd (omega (arith, x .0))
@@ -62,7 +63,7 @@ module _ (l places f table : List ℕ) (rules : Rules) (m : Moment) (z : Seats) 
   -- no run ends on it, and the next waiting list has room
   pub next-turn : (more : ℕ) → b .found ≡ false → SettledIs l places f table rules m z before after more → more ≤ z .slots
       → TurnIs l places f table rules m z before after (record { outcome = Waiting more; thread = b .thread })
-  next-turn more q a h g fm s k = go (a g fm s k)
+  next-turn more q a h g fm s k = go (a g fm s k (least-none (machine g fm) _ (no-ending q g fm s k)))
     where
       go : SettledTo g fm (m .number) z before after more → TurnTo g fm (z .half) (z .count) (z .slots) (m .number) before after (b .thread) (Waiting more)
       go (inl x) = (no-ending q g fm s k, x .1, x .2)

@@ -21,13 +21,13 @@ use Rattle.slots.proofs.Words.{thread-take, thread-of-words, words-leng
 pub part-thread : (l : List ℕ) (a e p : ℕ) → a ≡ p → e ≡ a + 96 → threadOf (take (e - a) (drop a l)) ≡ threadAt l p
 part-thread l a e p q h = thread-take (e - a) (drop a l) (omega arith) ∙ ap (threadAt l) q
 
--- a part of the words from where a slot's half begins
+-- a part of the list, taken from where a slot's half begins
 pub slot-part : (l : List ℕ) (a e p j n : ℕ) → a ≡ p + j → e ≡ a + n → take (e - a) (drop a l) ≡ take n (drop j (drop p l))
 slot-part l a e p j n q h =
     let d : e - a ≡ n = omega arith in
     ap (λ i. take i (drop a l)) d ∙ ap (λ i. take n (drop i l)) q ∙ ap (take n) (sym (drop-drop j p l))
 
--- a trail's words compared where they stand
+-- the words of a slot's trail, compared where they stand: the order of its thread's trail
 pub later-there : (l : List ℕ) (b : Thread) (a m p k n : ℕ) → a ≡ p + 46 → m ≡ a + k → p + 78 ≤ length l → length (b .trail) ≡ 32
     → k ≡ min (threadAt l p .steps) 32 → n ≡ min (b .steps) 32
     → wordOrder (take (m - a) (drop a l)) (take n (b .trail)) ≡ order (trailOf (threadAt l p)) (trailOf b)

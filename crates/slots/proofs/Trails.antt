@@ -51,6 +51,7 @@ orderOf Lesser = Ordering·lt
 orderOf Equal = Ordering·eq
 orderOf Greater = Ordering·gt
 
+-- so the comparison is known from its side
 told : (o : Ordering) (s t : Side) → s ≡ sideOf o → s ≡ t → o ≡ orderOf t
 told o s t e h = back o ∙ ap orderOf (sym e ∙ h)
   where

@@ -177,7 +177,14 @@ module _ (g : Log) (fm : Formula) {l places : List ℕ} (f table : List ℕ) (ru
     unfolding firesAt
     fires-not fresh new at e quiet = fires-silent fresh new (rw (← e, quiet, and-false (isStep f at)))
 
-    -- and so whatever is new to the lists
+    -- one that its bytes let fire does
+    pub fires-so : (fresh : List Bool) → IsFresh (gathered g fm (trailOf t)) (inEvent (m .event)) fresh → (at : ℕ)
+        → at ≡ offsetOf table (t .config .state) k → isStep f at ≡ true → (fired f at (t .config) fresh (inEvent (m .event))) .fires ≡ true
+        → isFired (fireAt g fm (conf g fm t) (m .number) k) ≡ true
+    unfolding firesAt
+    fires-so fresh new at e there fires = sym (fires-here fresh new k h) ∙ rw (← e, there, fires)
+
+    -- one that they keep from firing whatever is new to the lists does not
     pub fires-barred : (at : ℕ) → at ≡ offsetOf table (t .config .state) k
         → ((fresh : List Bool) → (fired f at (t .config) fresh (inEvent (m .event))) .fires ≡ false) → fireAt g fm (conf g fm t) (m .number) k ≡ none
     fires-barred at e bars = fires-not marks-then marks-new at e (bars marks-then)

@@ -13,7 +13,7 @@ ghost use Prim.Native.Nat.{_+_, _*_, _≤_, _<_};
 ghost use lib.Dec.{leb, eqb};
 ghost use lib.ListN.{length, getD};
 ghost use Rattle.threads.specs.inner.Event.{Seated, EndingIs, SettledIs};
-ghost use Rattle.threads.specs.inner.Calls.{MovedIs, ChoiceIs, BetterIs, MayEndIs, EndedIs, WaitsIs, OfferIs, OfferMoveIs, OfferMovesIs, RemainIs, IdlesIs, SiftOneIs, SiftIs, MergeIs};
+ghost use Rattle.threads.specs.inner.Calls.{MovedIs, LowestByIs, ChoiceIs, BetterIs, MayEndIs, EndedIs, WaitsIs, OfferIs, OfferMoveIs, OfferMovesIs, RemainIs, IdlesIs, SiftOneIs, SiftIs, MergeIs};
 ghost use Rattle.slots.specs.inner.Words.{threadAt, place};
 
 // What stays from event to event: the kind of each state (0 ordinary, 1 committed, 2 accept, 3 reject), which fields
@@ -133,8 +133,28 @@ fn moved(
     }
 }
 
+// The number of the lowest numbered step of a thread in a committed state that fires on the event, 8 if none does; `endless` says that it is
+// known to end no run there.
+fn lowest_by(
+    l: &[u8],
+    places: &[usize],
+    f: &[u8],
+    table: &[usize],
+    rules: Rules,
+    moment: Moment,
+    t: Thread,
+    endless: bool,
+) -> u32
+    ensures { λ r. ⌜ LowestByIs (now (l .entry)) (now (places .entry)) (now (f .entry)) (now (table .entry)) rules moment t endless r ⌝ }
+{
+    if endless {
+        return step::lowest_open(l, places, f, table, rules, moment, t);
+    }
+    step::lowest_at(l, places, f, table, rules, moment, t)
+}
+
 // What a thread may do on the event: in a committed state the lowest numbered step that fires is taken; else each step, and
-// once the first step is taken they may be passed over.
+// once the first step is taken they may be passed over. `endless` says that it is known to end no run there.
 fn choice_of(
     l: &[u8],
     places: &[usize],
@@ -143,12 +163,13 @@ fn choice_of(
     rules: Rules,
     moment: Moment,
     t: Thread,
+    endless: bool,
 ) -> Choice
-    ensures { λ r. ⌜ ChoiceIs (now (l .entry)) (now (places .entry)) (now (f .entry)) (now (table .entry)) rules moment t r ⌝ }
+    ensures { λ r. ⌜ ChoiceIs (now (l .entry)) (now (places .entry)) (now (f .entry)) (now (table .entry)) rules moment t endless r ⌝ }
 {
     let begun = 0 < t.steps;
     if is_committed(rules, t.config.state) {
-        let k = step::lowest_at(l, places, f, table, rules, moment, t);
+        let k = lowest_by(l, places, f, table, rules, moment, t, endless);
         if k < 8 {
             return Choice {
                 from: k,
@@ -218,7 +239,7 @@ fn ending_of(
     requires { ⌜ moment .number < 1024 ⌝ }
     ensures { λ r. ⌜ EndedIs (now (l .entry)) (now (places .entry)) (now (f .entry)) (now (table .entry)) rules moment best t r ⌝ }
 {
-    let choice = choice_of(l, places, f, table, rules, moment, t);
+    let choice = choice_of(l, places, f, table, rules, moment, t, false);
     let to = choice.to;
     let mut least = best;
     let mut k = choice.from;
@@ -410,7 +431,18 @@ fn offer_moves(
     while next < choice.to {
         let k = next;
         next += 1;
-        if !step::may(f, table, &kinds, config.state, k, false, &held, &prior, &values, &there) {
+        if !step::may(
+            f,
+            table,
+            &kinds,
+            config.state,
+            k,
+            false,
+            &held,
+            &prior,
+            &values,
+            &there,
+        ) {
             continue;
         }
         let grown = Seats {
@@ -469,7 +501,7 @@ fn idles(work: &[u32], slot: usize, half: usize, table: &[usize], rules: Rules) 
     false
 }
 
-// Sifts the thread of slot j: if it stays it becomes the last of those that do, in the front of the half; what its moves leave that may
+// Sifts the thread of slot j, on an event on which no thread ends a run: if it stays it becomes the last of those that do, in the front of the half; what its moves leave that may
 // wait is inserted into the list in the other half. A thread that idles, with none dropped before it, is not loaded.
 fn sift_one(
     work: &mut [u32],
@@ -495,7 +527,7 @@ fn sift_one(
         }
     }
     let t = slots::load_slot(&work[..], j, seats.half);
-    let choice = choice_of(l, places, f, table, rules, moment, t);
+    let choice = choice_of(l, places, f, table, rules, moment, t, true);
     let next = Seats {
         half: 1 - seats.half,
         count: done.moved,
@@ -581,7 +613,7 @@ fn merge(
     count
 }
 
-// The waiting list after the event, in the half of the one before it: threads that stay are distinct, so only what moved is inserted.
+// The waiting list after an event on which no run ends, in the half of the one before it: threads that stay are distinct, so only what moved is inserted.
 // Its count, one more than the slots where it needs more.
 pub fn settle(
     work: &mut [u32],

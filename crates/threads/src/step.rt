@@ -10,7 +10,7 @@ ghost use mathlib.Core.Path.{_≡_};
 ghost use mathlib.Core.Bool.{true, not};
 ghost use Prim.Native.Nat.{_<_};
 ghost use Rattle.event_log.specs.Event.{together};
-ghost use Rattle.threads.specs.inner.Calls.{EndsIs, MayIs, CanEndIs, NoneEndsIs, EndsOnIs, FiresIs, LowestIs, HopefulIs};
+ghost use Rattle.threads.specs.inner.Calls.{EndsIs, MayIs, CanEndIs, TakesIs, EndsOnIs, FiresIs, LowestIs, LowestOpenIs, HopefulIs};
 
 // Whether step k of a state leads to a state that accepts or rejects: such a step ends runs and leaves nothing to wait.
 pub fn ends_by(f: &[u8], table: &[usize], rules: Rules, state: u32, k: u32) -> bool
@@ -83,8 +83,8 @@ pub fn can_end(
     false
 }
 
-// Whether step k of a state fires on the event and may end a run.
-fn ends_at(
+// Whether step k of a state fires on the event and ends a run, or, with `ends` false, fires and ends none.
+fn takes(
     f: &[u8],
     table: &[usize],
     kinds: &[u32; 16],
@@ -92,15 +92,27 @@ fn ends_at(
     fresh: [bool; 32],
     event: Event,
     k: u32,
+    ends: bool,
 ) -> bool
     requires { ⌜ k < 8 ⌝ }
-    ensures { λ r. ⌜ NoneEndsIs (now (f .entry)) (now (table .entry)) (now (kinds .entry)) c fresh event k r ⌝ }
+    ensures { λ r. ⌜ TakesIs (now (f .entry)) (now (table .entry)) (now (kinds .entry)) c fresh event k ends r ⌝ }
 {
     let held = c.held;
     let prior = c.values;
     let values = event.values;
     let there = event.present;
-    if !may(f, table, kinds, c.state, k, true, &held, &prior, &values, &there) {
+    if !may(
+        f,
+        table,
+        kinds,
+        c.state,
+        k,
+        ends,
+        &held,
+        &prior,
+        &values,
+        &there,
+    ) {
         return false;
     }
     let at = machine_code::steps::step_offset(table, c.state, k as usize);
@@ -128,7 +140,7 @@ pub fn ends_on(
     let fresh = fresh_at(l, places, f, table, rules, tallies, trail, t.steps, values);
     let mut k: u32 = 0;
     while k < 8 {
-        if ends_at(f, table, &kinds, config, fresh, event, k) {
+        if takes(f, table, &kinds, config, fresh, event, k, true) {
             return true;
         }
         k += 1;
@@ -195,6 +207,38 @@ pub fn lowest_at(
     let fresh = fresh_at(l, places, f, table, rules, tallies, trail, t.steps, values);
     let k = machine_code::steps::lowest(f, table, config, fresh, event);
     k as u32
+}
+
+// The same, of a thread that ends no run on the event, in a committed state: a step that ends runs is not tried.
+pub fn lowest_open(
+    l: &[u8],
+    places: &[usize],
+    f: &[u8],
+    table: &[usize],
+    rules: Rules,
+    moment: Moment,
+    t: Thread,
+) -> u32
+    ensures { λ r. ⌜ LowestOpenIs (now (l .entry)) (now (places .entry)) (now (f .entry)) (now (table .entry)) rules moment t r ⌝ }
+{
+    let kinds = rules.kinds;
+    let config = t.config;
+    let event = moment.event;
+    let values = event.values;
+    let tallies = config.tallies;
+    let trail = t.trail;
+    let fresh = fresh_at(l, places, f, table, rules, tallies, trail, t.steps, values);
+    let mut next: u32 = 0;
+    'steps: loop {
+        let k = next;
+        if 8 <= k {
+            break 'steps 8;
+        }
+        next += 1;
+        if takes(f, table, &kinds, config, fresh, event, k, false) {
+            break 'steps k;
+        }
+    }
 }
 
 // Whether some step of a thread's state is not expired after the event.

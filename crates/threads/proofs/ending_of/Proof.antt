@@ -1,6 +1,7 @@
 -- The least over a thread's moves: what the steps left make of the best so far is the whole.
 use Prim.Native.Nat.{_-_}
 use mathlib.Core.Path.{_≡_, refl, sym, subst}
+use mathlib.Core.Bool.{false≢true}
 use native.Mathlib.Omega.{arith}
 use borrow.Author.Needs.{needs}
 use Rattle.event_log.specs.Log.{Log}
@@ -66,7 +67,7 @@ returns c =
     let r = c .before .before .choice-of .result in
     λ g fm s go ok.
     let v = l .inv g fm s go ok in
-    let m = c .before .before .choice-of .ensures .1 g fm s (go .fit) in
+    let m = c .before .before .choice-of .ensures .1 g fm s (go .fit) (λ e. absurd (false≢true e)) in
     let xs = Runs.firing (machine g fm) (thread g fm (a .t)) n (r .from) (r .to - r .from) in
     subst (λ ys. Improved g fm (a .best) ys (l .least)) (sym (m .moves-are))
     (improved-done g fm (l .least) (a .best) (a .t) n (l .k) (r .to) xs (c .loop-test .left) (v .0) (v .1))

@@ -65,7 +65,7 @@ loop-again c =
           let whole = insertWithin (machine g fm) (z .slots) (waitingIn g fm (z .half) (z .count) w) (firing (a .choice .from)) in
           left-as g fm (z .half) (z .slots) whole (firing (l .next)) (firing (l .next + 1)) (l .work) (l .count)
           (offers-past g fm (a .t) n (l .next) (a .choice .to) (c7 .if1 .taken)
-          (c .before .may .ensures (not-true _ (c .if2 .taken)) (omega (arith, c7 .if1 .taken, c22 .pre .2)) g fm _ _ (a .rules) (a .moment) s refl refl (a .t)
+          (c .before .may .ensures .0 (not-true _ (c .if2 .taken)) (omega (arith, c7 .if1 .taken, c22 .pre .2)) g fm _ _ (a .rules) (a .moment) s refl refl (a .t)
           refl refl refl (go .fit)))
           v,
     )

@@ -18,7 +18,7 @@ returns c =
     let c5 = c .before .before .before .before .before in
     let a = c5 .before .before .before .before .before .before .before .args in
     let x = c5 .sift in (
-      λ g fm s k. settled-stopped g fm (a .moment .number) (a .seats) (now (a .work)) (x .last .0) (x .result) (x .ensures .3 g fm s k) (c .if1 .taken),
+      λ g fm s k q. settled-stopped g fm (a .moment .number) (a .seats) (now (a .work)) (x .last .0) (x .result) (x .ensures .3 g fm s k q) (c .if1 .taken),
       (omega (arith, x .ensures .1), x .ensures .2),
     )
 
@@ -36,8 +36,8 @@ returns-2 c =
     let a = c9 .before .before .before .before .before .before .before .args in
     let x = c9 .sift in
     let y = c2 .merge in (
-      λ g fm s k. settled-merged g fm (a .moment .number) (a .seats) (now (a .work)) (x .last .0) (x .result) (y .last .0) (y .result)
-          (x .ensures .3 g fm s k) (c4 .if1 .left) (λ p q. y .ensures .1 g fm (a .moment) s p q),
+      λ g fm s k q. settled-merged g fm (a .moment .number) (a .seats) (now (a .work)) (x .last .0) (x .result) (y .last .0) (y .result)
+          (x .ensures .3 g fm s k q) (c4 .if1 .left) (λ p o. y .ensures .1 g fm (a .moment) s p o),
       (omega (arith, y .ensures .0 .most), y .ensures .0 .sized ∙ x .ensures .2),
     )
 

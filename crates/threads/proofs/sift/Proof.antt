@@ -11,7 +11,7 @@ use Rattle.runs.specs.inner.Threads.{insertWithin}
 use Rattle.runs.specs.inner.Settle.{stayers, movers}
 use Rattle.machine.specs.Machine.{machine}
 use Rattle.threads.specs.inner.Calls.{Sifts, Sifting}
-use Rattle.threads.specs.inner.Event.{Kept}
+use Rattle.threads.specs.inner.Event.{Kept, NoneEnds}
 use Rattle.threads.specs.inner.Setting.{Scene}
 use Rattle.threads.proofs.Sifting.{sifts-start, sifting-start, sifted-on, sifted-stopped, all-sifted}
 use Rattle.threads.proofs.sift.Statement.{statement}
@@ -21,7 +21,7 @@ abbrev Inv-loop : tie.InvT-loop
 Inv-loop work₀ seats l places f table rules m sifted₀ j₀ work sifted j =
     Sifts seats work₀ j sifted work
     × ((g : Log) (fm : Formula) → Scene g fm l places f table rules m → Kept g fm (seats .half) (seats .count) work₀
-    → Sifting g fm (m .number) seats work₀ j sifted work)
+    → NoneEnds g fm (m .number) (seats .half) (seats .count) work₀ → Sifting g fm (m .number) seats work₀ j sifted work)
 
 abbrev μ-loop : tie.MeasureT-loop
 μ-loop work₀ seats l places f table rules m sifted₀ j₀ work sifted j = seats .count - j
@@ -29,7 +29,7 @@ abbrev μ-loop : tie.MeasureT-loop
 loop-holds : tie.Need-loop-holds Inv-loop μ-loop
 loop-holds c =
     let a = c .before .before .before .before .before .args in
-    (sifts-start (a .seats) (now (a .work)), λ g fm s k. sifting-start g fm (a .moment .number) (a .seats) (now (a .work)))
+    (sifts-start (a .seats) (now (a .work)), λ g fm s k q. sifting-start g fm (a .moment .number) (a .seats) (now (a .work)))
 
 sift-one-requires : tie.Need-sift-one-requires Inv-loop μ-loop
 sift-one-requires c κs =
@@ -53,8 +53,8 @@ returns c =
       omega (arith, x .ensures .0, c5 .before .before .if1 .taken),
       x .ensures .1,
       x .ensures .2 ∙ i .sized,
-      λ g fm s k. sifted-stopped g fm (a .moment .number) (a .seats) (now (a .work)) (x .last .0) (x .result) _
-          (x .ensures .4 (now (a .work)) i g fm s k (l .inv .1 g fm s k)) (c .if2 .taken),
+      λ g fm s k q. sifted-stopped g fm (a .moment .number) (a .seats) (now (a .work)) (x .last .0) (x .result) _
+          (x .ensures .4 (now (a .work)) i g fm s k q (l .inv .1 g fm s k q)) (c .if2 .taken),
     )
 
 add-j : tie.Need-add-j Inv-loop μ-loop
@@ -72,8 +72,8 @@ loop-again c =
     let i = l .inv .0 in
     let x = c5 .sift-one in (
       x .ensures .3 (now (a .work)) i (c .if2 .left),
-      λ g fm s k. sifted-on g fm (a .moment .number) (a .seats) (now (a .work)) (x .last .0) (x .result) _
-          (x .ensures .4 (now (a .work)) i g fm s k (l .inv .1 g fm s k)) (c .if2 .left),
+      λ g fm s k q. sifted-on g fm (a .moment .number) (a .seats) (now (a .work)) (x .last .0) (x .result) _
+          (x .ensures .4 (now (a .work)) i g fm s k q (l .inv .1 g fm s k q)) (c .if2 .left),
     )
 
 same-length-2 : tie.Need-same-length-2 Inv-loop μ-loop
@@ -90,8 +90,8 @@ returns-2 c =
       omega (arith, i .front, i .seen),
       omega (arith, i .room),
       i .sized,
-      λ g fm s k.
-          let v = l .inv .1 g fm s k in
+      λ g fm s k q.
+          let v = l .inv .1 g fm s k q in
           let all = all-sifted g fm n z w (l .j) (c .if1 .left) in
           inl (
             i .room,

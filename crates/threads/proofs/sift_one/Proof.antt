@@ -6,7 +6,7 @@ use native.Mathlib.Omega.{arith}
 use denote.Ref.{now}
 use borrow.Author.Needs.{needs}
 use Rattle.threads.proofs.Sifting.{sifts-next, sifting-next, sifting-stopped, idle-sifts, idle-sifting}
-use Rattle.threads.proofs.Listed.{kept-at, thread-stays}
+use Rattle.threads.proofs.Listed.{kept-at, thread-stays, ends-none}
 use Rattle.threads.proofs.sift_one.Statement.{statement}
 use Rattle.threads.proofs.sift_one.Tie as tie
 
@@ -35,7 +35,7 @@ returns c =
       omega (arith, p .3),
       refl,
       λ before s room. idle-sifts (now (a .f)) (now (a .table)) (a .rules) (a .moment) z before (a .j) (a .done) w two most s (p .4) front idle,
-      λ before s g fm scene kept v.
+      λ before s g fm scene kept quiet v.
           inl (
             p .3,
             idle-sifting (now (a .f)) (now (a .table)) (a .rules) (a .moment) z before (a .j) (a .done) w two most s (p .4) front idle (now (a .l))
@@ -77,11 +77,11 @@ returns-2 c =
       x .ensures .0 .most,
       x .ensures .0 .sized,
       λ before s room. absurd (omega (arith, room, c .if3 .taken)),
-      λ before s g fm scene kept v.
+      λ before s g fm scene kept quiet v.
           let e = c8 .load-slot .ensures ∙ s .behind (a .j) (omega arith) (p .4) in
           let go = kept-at g fm (z .half) (z .count) before (a .j) t kept (p .4) e in
           inr (sifting-stopped g fm (a .moment .number) z before (a .j) (a .done) (now (a .work)) v t (p .4) e (c7 .choice-of .result)
-          (c7 .choice-of .ensures .1 g fm scene (go .fit)) (x .last .0) (x .result) (x .ensures .1 g fm scene (v .moved-kept) go) (c .if3 .taken)),
+          (c7 .choice-of .ensures .1 g fm scene (go .fit) (λ o. ends-none g fm (z .half) (z .count) before (a .j) t (p .4) e (a .moment .number) quiet)) (x .last .0) (x .result) (x .ensures .1 g fm scene (v .moved-kept) go) (c .if3 .taken)),
     )
 
 remain-requires : tie.Need-remain-requires
@@ -122,13 +122,14 @@ returns-3 c =
       y .ensures .0 .sized ∙ x .ensures .0 .sized,
       λ before s room. sifts-next z before (a .j) (a .done) (now (a .work)) (x .last .0) (y .last .0) t (x .result) (y .result) (p .0 .1) (p .0 .2) s (p .4)
           (x .ensures .0) (c4 .if3 .left) (y .ensures .0),
-      λ before s g fm scene kept v.
+      λ before s g fm scene kept quiet v.
           let e = c12 .load-slot .ensures ∙ s .behind (a .j) (omega arith) (p .4) in
           let go = kept-at g fm (z .half) (z .count) before (a .j) t kept (p .4) e in
           inl (
             c4 .if3 .left,
             sifting-next g fm (a .moment .number) z before (a .j) (a .done) (now (a .work)) v t (p .4) e (c11 .choice-of .result)
-                (c11 .choice-of .ensures .1 g fm scene (go .fit)) (x .last .0) (y .last .0) (x .result) (y .result) (p .0 .1)
+                (c11 .choice-of .ensures .1 g fm scene (go .fit)
+                (λ o. ends-none g fm (z .half) (z .count) before (a .j) t (p .4) e (a .moment .number) quiet)) (x .last .0) (y .last .0) (x .result) (y .result) (p .0 .1)
                 (omega (arith, p .0 .2, p .2, p .4)) go (x .ensures .0) (x .ensures .1 g fm scene (v .moved-kept) go) (c4 .if3 .left) (y .ensures .0)
                 (y .ensures .1 g fm scene go),
           ),

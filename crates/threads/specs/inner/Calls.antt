@@ -17,9 +17,9 @@ use Rattle.runs.specs.inner.Search as Runs
 use Rattle.runs.specs.inner.Threads.{insertWithin}
 use Rattle.runs.specs.inner.Settle.{stayers, movers, settle}
 use Rattle.machine.specs.Configuration.{Config, same}
-use Rattle.machine.specs.Machine.{machine, fireAt, final}
+use Rattle.machine.specs.Machine.{machine, fireAt, final, committed}
 use Rattle.machine_code.specs.declared.Configuration.{Configuration}
-use Rattle.machine_code.specs.inner.Bytes.{configOf, offsetOf}
+use Rattle.machine_code.specs.inner.Bytes.{configOf, offsetOf, isStep}
 use Rattle.slots.specs.declared.Thread.{Thread}
 use Rattle.slots.specs.inner.Threads.{trailOf, sameWords, position}
 use Rattle.slots.specs.inner.Words.{threadAt, place, list, Around, Inserted}
@@ -33,7 +33,7 @@ use Rattle.threads.specs.declared.Seats.{Seats}
 use Rattle.machine.specs.inner.Along.{gathered, tallies, IsFresh}
 use Rattle.lists.specs.inner.Words.{Holds}
 use Rattle.threads.specs.inner.Setting.{Scene, Fit, conf, thread}
-use Rattle.threads.specs.inner.Event.{bestOf, waitingIn, Kept}
+use Rattle.threads.specs.inner.Event.{bestOf, waitingIn, Kept, NoneEnds}
 
 -- ---- one step
 
@@ -67,9 +67,10 @@ LeadsIs f table kinds state held prior event k b =
     → inEvent (m .event) ≡ event → (t : Thread) → t .config .state ≡ state → t .config .held ≡ held → t .config .values ≡ prior → Fit g fm t → (d : Config)
     → fireAt g fm (conf g fm t) (m .number) k ≡ some d → final fm d ≡ b
 
--- a step that may not end runs does not, and one that may leave nothing that waits ends runs, where it fires at all
+-- a step that may not end runs does not, and one that may leave nothing that waits ends runs, where it fires at all; one that may stands in the table
 abbrev pub MayIs : List ℕ → List ℕ → List ℕ → ℕ → List Bool → List ℕ → Values → ℕ → Bool → Bool → Type 0
-MayIs f table kinds state held prior event k ends r = r ≡ false → k < 8 → LeadsIs f table kinds state held prior event k (not ends)
+MayIs f table kinds state held prior event k ends r =
+    (r ≡ false → k < 8 → LeadsIs f table kinds state held prior event k (not ends)) × (r ≡ true → isStep f (offsetOf table state k) ≡ true)
 
 abbrev pub CanEndIs : List ℕ → List ℕ → List ℕ → ℕ → List Bool → List ℕ → Values → Bool → Type 0
 CanEndIs f table kinds state held prior event r = r ≡ false → (k : ℕ) → k < 8 → LeadsIs f table kinds state held prior event k false
@@ -78,12 +79,18 @@ CanEndIs f table kinds state held prior event r = r ≡ false → (k : ℕ) → 
 abbrev pub EndsNothing : Log → Formula → Thread → ℕ → Type 0
 EndsNothing g fm t n = (k : ℕ) → k < 8 → (d : Config) → fireAt g fm (conf g fm t) n k ≡ some d → final fm d ≡ false
 
--- of step k, for a thread with this configuration and with marks on what is new to its lists
-abbrev pub NoneEndsIs : List ℕ → List ℕ → List ℕ → Configuration → List Bool → Event → ℕ → Bool → Type 0
-NoneEndsIs f table kinds c fresh event k r =
-    r ≡ false → (g : Log) (fm : Formula) (l places : List ℕ) (rules : Rules) (m : Moment) → Scene g fm l places f table rules m → rules .kinds ≡ kinds
-    → m .event ≡ event → (t : Thread) → t .config ≡ c → Fit g fm t → IsFresh (gathered g fm (trailOf t)) (inEvent event) fresh → (d : Config)
-    → fireAt g fm (conf g fm t) (m .number) k ≡ some d → final fm d ≡ false
+-- step k fires on event n
+pub record Fires (g : Log) (fm : Formula) (c : Config) (n k : ℕ) : Type 0 where
+  pub left : Config
+  pub is : fireAt g fm c n k ≡ some left
+
+-- step k of a thread with this configuration, and with marks on what is new to its lists, is taken: it fires; it is not: it leads elsewhere, where it fires
+abbrev pub TakesIs : List ℕ → List ℕ → List ℕ → Configuration → List Bool → Event → ℕ → Bool → Bool → Type 0
+TakesIs f table kinds c fresh event k ends r =
+    (g : Log) (fm : Formula) (l places : List ℕ) (rules : Rules) (m : Moment) → Scene g fm l places f table rules m → rules .kinds ≡ kinds
+    → m .event ≡ event → (t : Thread) → t .config ≡ c → Fit g fm t → IsFresh (gathered g fm (trailOf t)) (inEvent event) fresh
+    → (r ≡ false → (d : Config) → fireAt g fm (conf g fm t) (m .number) k ≡ some d → final fm d ≡ not ends)
+    × (r ≡ true → Fires g fm (conf g fm t) (m .number) k)
 
 abbrev pub EndsOnIs : List ℕ → List ℕ → List ℕ → List ℕ → Rules → Moment → Thread → Bool → Type 0
 EndsOnIs l places f table rules m t r =
@@ -118,11 +125,6 @@ MovedIs l places f table rules m t k r =
     (g : Log) (fm : Formula) → Scene g fm l places f table rules m → Going g fm t
     → MovedBy g fm (fireAt g fm (conf g fm t) (m .number) k) t (m .number) k r
 
--- step k fires on event n
-pub record Fires (g : Log) (fm : Formula) (c : Config) (n k : ℕ) : Type 0 where
-  pub left : Config
-  pub is : fireAt g fm c n k ≡ some left
-
 -- "the lowest numbered step that fires", 8 where none does
 pub record Lowest (g : Log) (fm : Formula) (c : Config) (n k : ℕ) : Type 0 where
   pub quiet : (j : ℕ) → j < k → fireAt g fm c n j ≡ none
@@ -132,15 +134,33 @@ abbrev pub LowestIs : List ℕ → List ℕ → List ℕ → List ℕ → Rules 
 LowestIs l places f table rules m t r =
     (r ≤ 8) × ((g : Log) (fm : Formula) → Scene g fm l places f table rules m → Fit g fm t → Lowest g fm (conf g fm t) (m .number) r)
 
+-- no move of the thread ends a run on event n
+abbrev pub NoEnding : Log → Formula → Thread → ℕ → Type 0
+NoEnding g fm t n = keep (Runs.ended (machine g fm)) (Runs.moves (machine g fm) n (thread g fm t)) ≡ []
+
+abbrev pub LowestOpenIs : List ℕ → List ℕ → List ℕ → List ℕ → Rules → Moment → Thread → ℕ → Type 0
+LowestOpenIs l places f table rules m t r =
+    (r ≤ 8)
+    × ((g : Log) (fm : Formula) → Scene g fm l places f table rules m → Fit g fm t → committed fm (conf g fm t) ≡ true → NoEnding g fm t (m .number)
+    → Lowest g fm (conf g fm t) (m .number) r)
+
+abbrev pub LowestByIs : List ℕ → List ℕ → List ℕ → List ℕ → Rules → Moment → Thread → Bool → ℕ → Type 0
+LowestByIs l places f table rules m t endless r =
+    (r ≤ 8)
+    × ((g : Log) (fm : Formula) → Scene g fm l places f table rules m → Fit g fm t → committed fm (conf g fm t) ≡ true
+    → (endless ≡ true → NoEnding g fm t (m .number)) → Lowest g fm (conf g fm t) (m .number) r)
+
 -- "In an ordinary state, steps may be passed over. In a committed state the lowest numbered step that fires is taken": the moves
 -- are those of a range of steps
 pub record Chosen (g : Log) (fm : Formula) (t : Thread) (n : ℕ) (r : Choice) : Type 0 where
   pub moves-are : Runs.moves (machine g fm) n (thread g fm t) ≡ Runs.firing (machine g fm) (thread g fm t) n (r .from) (r .to - r .from)
   pub stays-is : r .stays ≡ Runs.stays (machine g fm) n (thread g fm t)
 
-abbrev pub ChoiceIs : List ℕ → List ℕ → List ℕ → List ℕ → Rules → Moment → Thread → Choice → Type 0
-ChoiceIs l places f table rules m t r =
-    (r .to ≤ 8) × ((g : Log) (fm : Formula) → Scene g fm l places f table rules m → Fit g fm t → Chosen g fm t (m .number) r)
+abbrev pub ChoiceIs : List ℕ → List ℕ → List ℕ → List ℕ → Rules → Moment → Thread → Bool → Choice → Type 0
+ChoiceIs l places f table rules m t endless r =
+    (r .to ≤ 8)
+    × ((g : Log) (fm : Formula) → Scene g fm l places f table rules m → Fit g fm t → (endless ≡ true → NoEnding g fm t (m .number))
+    → Chosen g fm t (m .number) r)
 
 -- ---- the least run that ends
 
@@ -312,7 +332,7 @@ SiftOneIs l places f table rules m s a j now after r =
     (r .stayed ≤ suc j) × (r .moved ≤ suc (s .slots)) × (length after ≡ length now)
     × ((before : List ℕ) → Sifts s before j a now → r .moved ≤ s .slots → Sifts s before (j + 1) r after)
     × ((before : List ℕ) → Sifts s before j a now → (g : Log) (fm : Formula) → Scene g fm l places f table rules m → Kept g fm (s .half) (s .count) before
-    → Sifting g fm (m .number) s before j a now → SiftedOn g fm (m .number) s before (j + 1) r after)
+    → NoneEnds g fm (m .number) (s .half) (s .count) before → Sifting g fm (m .number) s before j a now → SiftedOn g fm (m .number) s before (j + 1) r after)
 
 -- the threads of the half that stay are its front, those that moved stand in the other half, distinct; or more moved than there are slots
 abbrev pub SiftedTo : (g : Log) (fm : Formula) (n : ℕ) (s : Seats) (before after : List ℕ) (r : Sifted) → Type 0
@@ -328,7 +348,8 @@ SiftedTo g fm n s before after r =
 abbrev pub SiftIs : List ℕ → List ℕ → List ℕ → List ℕ → Rules → Moment → Seats → List ℕ → List ℕ → Sifted → Type 0
 SiftIs l places f table rules m s before after r =
     (r .stayed ≤ s .count) × (r .moved ≤ suc (s .slots)) × (length after ≡ length before)
-    × ((g : Log) (fm : Formula) → Scene g fm l places f table rules m → Kept g fm (s .half) (s .count) before → SiftedTo g fm (m .number) s before after r)
+    × ((g : Log) (fm : Formula) → Scene g fm l places f table rules m → Kept g fm (s .half) (s .count) before
+    → NoneEnds g fm (m .number) (s .half) (s .count) before → SiftedTo g fm (m .number) s before after r)
 
 -- the threads of the other half were inserted into the list, one by one
 abbrev pub MergeIs : List ℕ → List ℕ → List ℕ → List ℕ → Rules → Seats → ℕ → List ℕ → List ℕ → ℕ → Type 0

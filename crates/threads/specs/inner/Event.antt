@@ -3,7 +3,7 @@ use Prim.Native.Nat.{ℕ, suc, _*_, _<_, _≤_}
 use mathlib.Core.Path.{_≡_}
 use mathlib.Core.Bool.{Bool, true, false}
 use mathlib.Core.Logic.{_⊎_}
-use mathlib.Core.List.{List, map}
+use mathlib.Core.List.{List, [], map}
 use mathlib.Core.Option.{Option, none, some}
 use lib.ListN.{length}
 use Rattle.base.specs.Lists.{All}
@@ -37,6 +37,10 @@ pub record Kept (g : Log) (fm : Formula) (half count : ℕ) (work : List ℕ) : 
   pub fit : All (Fit g fm) (list half count work)
   pub short : All (λ (t : Thread). t .steps < 32) (list half count work)
 
+-- no thread of the list ends a run on event n
+abbrev pub NoneEnds : (g : Log) (fm : Formula) (n half count : ℕ) (work : List ℕ) → Type 0
+NoneEnds g fm n half count work = Runs.endings (machine g fm) n (waitingIn g fm half count work) ≡ []
+
 -- the slots are within the words, the list within the slots
 abbrev pub Seated : Seats → List ℕ → Type 0
 Seated s work = (s .slots * 192 ≤ length work) × (s .half < 2) × (s .count ≤ s .slots)
@@ -48,7 +52,7 @@ EndingIs l places f table rules m s work r =
     → (bestOf g fm r ≡ Runs.least (machine g fm) (Runs.endings (machine g fm) (m .number) (waitingIn g fm (s .half) (s .count) work)))
     × (r .found ≡ true → Fit g fm (r .thread))
 
--- the next waiting list stands in the same half, or it has more threads than there are slots
+-- where no run ends on the event, the next waiting list stands in the same half, or it has more threads than there are slots
 abbrev pub SettledTo : (g : Log) (fm : Formula) (n : ℕ) (s : Seats) (before after : List ℕ) (r : ℕ) → Type 0
 SettledTo g fm n s before after r =
     ((r ≤ s .slots) × (settle (machine g fm) (s .slots) n (waitingIn g fm (s .half) (s .count) before) ≡ some (waitingIn g fm (s .half) r after))
@@ -57,4 +61,5 @@ SettledTo g fm n s before after r =
 
 abbrev pub SettledIs : List ℕ → List ℕ → List ℕ → List ℕ → Rules → Moment → Seats → List ℕ → List ℕ → ℕ → Type 0
 SettledIs l places f table rules m s before after r =
-    (g : Log) (fm : Formula) → Scene g fm l places f table rules m → Kept g fm (s .half) (s .count) before → SettledTo g fm (m .number) s before after r
+    (g : Log) (fm : Formula) → Scene g fm l places f table rules m → Kept g fm (s .half) (s .count) before
+    → NoneEnds g fm (m .number) (s .half) (s .count) before → SettledTo g fm (m .number) s before after r

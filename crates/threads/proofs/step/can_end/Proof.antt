@@ -36,7 +36,7 @@ loop-again c =
     let c3 = c .before .before .before in
     let a = c3 .before .before .before .args in
     below-next (λ j. LeadsIs (now (a .f)) (now (a .table)) (now (a .kinds)) (a .state) (now (a .held)) (now (a .prior)) (together (now (a .there)) (now (a .values))) j false)
-    (c3 .loop .k) (c3 .loop .inv) (c .before .may .ensures (c .if1 .left) (c .before .before .loop-test .taken))
+    (c3 .loop .k) (c3 .loop .inv) (c .before .may .ensures .0 (c .if1 .left) (c .before .before .loop-test .taken))
 
 returns-2 : tie.Need-returns-2 Inv-loop μ-loop
 returns-2 c = λ e j h. c .before .loop .inv j (omega (arith, h, c .loop-test .left))
