@@ -5,6 +5,7 @@ pub mod Charts
 pub mod Tables
 pub mod Marking
 pub mod Targets
+pub mod Taking
 pub mod Steps
 pub mod Firing
 pub mod Choices

@@ -134,7 +134,7 @@ fn moved(
 }
 
 // The number of the lowest numbered step of a thread in a committed state that fires on the event, 8 if none does; `endless` says that it is
-// known to end no run there.
+// known to end no run there, so that steps that end runs need not be tried.
 fn lowest_by(
     l: &[u8],
     places: &[usize],
@@ -148,7 +148,7 @@ fn lowest_by(
     ensures { λ r. ⌜ LowestByIs (now (l .entry)) (now (places .entry)) (now (f .entry)) (now (table .entry)) rules moment t endless r ⌝ }
 {
     if endless {
-        return step::lowest_open(l, places, f, table, rules, moment, t);
+        return step::first_taken(l, places, f, table, rules, moment, t, false);
     }
     step::lowest_at(l, places, f, table, rules, moment, t)
 }
@@ -298,7 +298,7 @@ fn ending_at(
         return best;
     }
     let t = slots::load_slot(work, j, seats.half);
-    if !step::ends_on(l, places, f, table, rules, moment, t) {
+    if 8 <= step::first_taken(l, places, f, table, rules, moment, t, true) {
         return best;
     }
     ending_of(best, l, places, f, table, rules, moment, t)

@@ -3,14 +3,11 @@ use crate::Moment;
 use crate::Move;
 use crate::Rules;
 use crate::gathered::fresh_at;
-use event_log::Event;
-use machine_code::Configuration;
 use slots::Thread;
 ghost use mathlib.Core.Path.{_≡_};
 ghost use mathlib.Core.Bool.{true, not};
-ghost use Prim.Native.Nat.{_<_};
 ghost use Rattle.event_log.specs.Event.{together};
-ghost use Rattle.threads.specs.inner.Calls.{EndsIs, MayIs, CanEndIs, TakesIs, EndsOnIs, FiresIs, LowestIs, LowestOpenIs, HopefulIs};
+ghost use Rattle.threads.specs.inner.Calls.{EndsIs, MayIs, CanEndIs, FirstTakenIs, FiresIs, LowestIs, HopefulIs};
 
 // Whether step k of a state leads to a state that accepts or rejects: such a step ends runs and leaves nothing to wait.
 pub fn ends_by(f: &[u8], table: &[usize], rules: Rules, state: u32, k: u32) -> bool
@@ -83,44 +80,9 @@ pub fn can_end(
     false
 }
 
-// Whether step k of a state fires on the event and ends a run, or, with `ends` false, fires and ends none.
-fn takes(
-    f: &[u8],
-    table: &[usize],
-    kinds: &[u32; 16],
-    c: Configuration,
-    fresh: [bool; 32],
-    event: Event,
-    k: u32,
-    ends: bool,
-) -> bool
-    requires { ⌜ k < 8 ⌝ }
-    ensures { λ r. ⌜ TakesIs (now (f .entry)) (now (table .entry)) (now (kinds .entry)) c fresh event k ends r ⌝ }
-{
-    let held = c.held;
-    let prior = c.values;
-    let values = event.values;
-    let there = event.present;
-    if !may(
-        f,
-        table,
-        kinds,
-        c.state,
-        k,
-        ends,
-        &held,
-        &prior,
-        &values,
-        &there,
-    ) {
-        return false;
-    }
-    let at = machine_code::steps::step_offset(table, c.state, k as usize);
-    machine_code::firing::passes(f, at, c, fresh, event)
-}
-
-// Whether a thread ends a run on the event. For speed alone: a function that always says so would meet the contract.
-pub fn ends_on(
+// The number of the lowest numbered step of a thread's state that fires on the event and ends a run, or, with `ends` false, that fires
+// and ends none; 8 if there is none.
+pub fn first_taken(
     l: &[u8],
     places: &[usize],
     f: &[u8],
@@ -128,24 +90,46 @@ pub fn ends_on(
     rules: Rules,
     moment: Moment,
     t: Thread,
-) -> bool
-    ensures { λ r. ⌜ EndsOnIs (now (l .entry)) (now (places .entry)) (now (f .entry)) (now (table .entry)) rules moment t r ⌝ }
+    ends: bool,
+) -> u32
+    ensures { λ r. ⌜ FirstTakenIs (now (l .entry)) (now (places .entry)) (now (f .entry)) (now (table .entry)) rules moment t ends r ⌝ }
 {
     let kinds = rules.kinds;
     let config = t.config;
+    let held = config.held;
+    let prior = config.values;
     let event = moment.event;
     let values = event.values;
+    let there = event.present;
     let tallies = config.tallies;
     let trail = t.trail;
     let fresh = fresh_at(l, places, f, table, rules, tallies, trail, t.steps, values);
-    let mut k: u32 = 0;
-    while k < 8 {
-        if takes(f, table, &kinds, config, fresh, event, k, true) {
-            return true;
+    let mut next: u32 = 0;
+    'steps: loop {
+        let k = next;
+        if 8 <= k {
+            break 'steps 8;
         }
-        k += 1;
+        next += 1;
+        if !may(
+            f,
+            table,
+            &kinds,
+            config.state,
+            k,
+            ends,
+            &held,
+            &prior,
+            &values,
+            &there,
+        ) {
+            continue 'steps;
+        }
+        let at = machine_code::steps::step_offset(table, config.state, k as usize);
+        if machine_code::firing::passes(f, at, config, fresh, event) {
+            break 'steps k;
+        }
     }
-    false
 }
 
 // Whether step k of a thread's state fires on the event, and the thread in the configuration that it leaves, its trail as before.
@@ -207,38 +191,6 @@ pub fn lowest_at(
     let fresh = fresh_at(l, places, f, table, rules, tallies, trail, t.steps, values);
     let k = machine_code::steps::lowest(f, table, config, fresh, event);
     k as u32
-}
-
-// The same, of a thread that ends no run on the event, in a committed state: a step that ends runs is not tried.
-pub fn lowest_open(
-    l: &[u8],
-    places: &[usize],
-    f: &[u8],
-    table: &[usize],
-    rules: Rules,
-    moment: Moment,
-    t: Thread,
-) -> u32
-    ensures { λ r. ⌜ LowestOpenIs (now (l .entry)) (now (places .entry)) (now (f .entry)) (now (table .entry)) rules moment t r ⌝ }
-{
-    let kinds = rules.kinds;
-    let config = t.config;
-    let event = moment.event;
-    let values = event.values;
-    let tallies = config.tallies;
-    let trail = t.trail;
-    let fresh = fresh_at(l, places, f, table, rules, tallies, trail, t.steps, values);
-    let mut next: u32 = 0;
-    'steps: loop {
-        let k = next;
-        if 8 <= k {
-            break 'steps 8;
-        }
-        next += 1;
-        if takes(f, table, &kinds, config, fresh, event, k, false) {
-            break 'steps k;
-        }
-    }
 }
 
 // Whether some step of a thread's state is not expired after the event.

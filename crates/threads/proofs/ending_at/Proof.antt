@@ -1,5 +1,6 @@
 -- A thread no step of which ends a run on the event leaves the best so far.
 use mathlib.Core.Path.{sym, subst}
+use native.Mathlib.Omega.{arith}
 use denote.Ref.{now}
 use borrow.Author.Tests.{not-true}
 use borrow.Author.Needs.{needs}
@@ -22,16 +23,17 @@ returns c =
 load-slot-requires : tie.Need-load-slot-requires
 load-slot-requires c κs = search needs
 
-ends-on-requires : tie.Need-ends-on-requires
-ends-on-requires c κs = search needs
+first-taken-requires : tie.Need-first-taken-requires
+first-taken-requires c κs = search needs
 
 returns-2 : tie.Need-returns-2
 returns-2 c =
     let a = c .before .before .before .before .before .before .before .before .before .before .args in
     let e = c .before .before .load-slot .ensures in
+    let x = c .before .first-taken in
     λ g fm s go b. improved-nothing g fm (a .best) b (threadAt (now (a .work)) (place (a .seats .half) (a .j))) (a .moment .number)
     (subst (λ (t : Thread). EndsNothing g fm t (a .moment .number)) e
-    (c .before .ends-on .ensures (not-true _ (c .if2 .taken)) g fm s (subst (λ (t : Thread). Going g fm t) (sym e) go .fit)))
+    (λ k h. x .ensures .1 g fm s (subst (λ (t : Thread). Going g fm t) (sym e) go .fit) .0 k (omega (arith, h, c .if2 .taken))))
 
 ending-of-requires : tie.Need-ending-of-requires
 ending-of-requires c κs = search needs
@@ -42,4 +44,4 @@ returns-3 c = rw (c .before .before .before .load-slot .ensures) at (c .ending-o
 pub ending-at-spec : {M : Type 1} → statement M
 ending-at-spec =
     tie.close
-    (tie.spec may-end-requires returns load-slot-requires ends-on-requires returns-2 ending-of-requires returns-3)
+    (tie.spec may-end-requires returns load-slot-requires first-taken-requires returns-2 ending-of-requires returns-3)

@@ -10,7 +10,6 @@ use lib.Dec.{eqb, ltb}
 use Rattle.base.specs.Lists.{sameList}
 use Rattle.event_log.specs.Log.{Log, Values, field}
 use Rattle.event_log.specs.Arrays.{inEvent}
-use Rattle.event_log.specs.declared.Event.{Event}
 use Rattle.formula.specs.Formula.{Formula}
 use Rattle.runs.specs.inner.Lists.{only, keep}
 use Rattle.runs.specs.inner.Search as Runs
@@ -18,7 +17,6 @@ use Rattle.runs.specs.inner.Threads.{insertWithin}
 use Rattle.runs.specs.inner.Settle.{stayers, movers, settle}
 use Rattle.machine.specs.Configuration.{Config, same}
 use Rattle.machine.specs.Machine.{machine, fireAt, final, committed}
-use Rattle.machine_code.specs.declared.Configuration.{Configuration}
 use Rattle.machine_code.specs.inner.Bytes.{configOf, offsetOf, isStep}
 use Rattle.slots.specs.declared.Thread.{Thread}
 use Rattle.slots.specs.inner.Threads.{trailOf, sameWords, position}
@@ -84,17 +82,13 @@ pub record Fires (g : Log) (fm : Formula) (c : Config) (n k : ℕ) : Type 0 wher
   pub left : Config
   pub is : fireAt g fm c n k ≡ some left
 
--- step k of a thread with this configuration, and with marks on what is new to its lists, is taken: it fires; it is not: it leads elsewhere, where it fires
-abbrev pub TakesIs : List ℕ → List ℕ → List ℕ → Configuration → List Bool → Event → ℕ → Bool → Bool → Type 0
-TakesIs f table kinds c fresh event k ends r =
-    (g : Log) (fm : Formula) (l places : List ℕ) (rules : Rules) (m : Moment) → Scene g fm l places f table rules m → rules .kinds ≡ kinds
-    → m .event ≡ event → (t : Thread) → t .config ≡ c → Fit g fm t → IsFresh (gathered g fm (trailOf t)) (inEvent event) fresh
-    → (r ≡ false → (d : Config) → fireAt g fm (conf g fm t) (m .number) k ≡ some d → final fm d ≡ not ends)
-    × (r ≡ true → Fires g fm (conf g fm t) (m .number) k)
-
-abbrev pub EndsOnIs : List ℕ → List ℕ → List ℕ → List ℕ → Rules → Moment → Thread → Bool → Type 0
-EndsOnIs l places f table rules m t r =
-    r ≡ false → (g : Log) (fm : Formula) → Scene g fm l places f table rules m → Fit g fm t → EndsNothing g fm t (m .number)
+-- steps before r, where they fire, lead elsewhere; step r fires
+abbrev pub FirstTakenIs : List ℕ → List ℕ → List ℕ → List ℕ → Rules → Moment → Thread → Bool → ℕ → Type 0
+FirstTakenIs l places f table rules m t ends r =
+    (r ≤ 8)
+    × ((g : Log) (fm : Formula) → Scene g fm l places f table rules m → Fit g fm t
+    → ((k : ℕ) → k < r → (d : Config) → fireAt g fm (conf g fm t) (m .number) k ≡ some d → final fm d ≡ not ends)
+    × (r < 8 → Fires g fm (conf g fm t) (m .number) r))
 
 abbrev pub MayEndIs : List ℕ → List ℕ → Rules → Moment → Thread → Bool → Type 0
 MayEndIs f table rules m t r =
@@ -137,12 +131,6 @@ LowestIs l places f table rules m t r =
 -- no move of the thread ends a run on event n
 abbrev pub NoEnding : Log → Formula → Thread → ℕ → Type 0
 NoEnding g fm t n = keep (Runs.ended (machine g fm)) (Runs.moves (machine g fm) n (thread g fm t)) ≡ []
-
-abbrev pub LowestOpenIs : List ℕ → List ℕ → List ℕ → List ℕ → Rules → Moment → Thread → ℕ → Type 0
-LowestOpenIs l places f table rules m t r =
-    (r ≤ 8)
-    × ((g : Log) (fm : Formula) → Scene g fm l places f table rules m → Fit g fm t → committed fm (conf g fm t) ≡ true → NoEnding g fm t (m .number)
-    → Lowest g fm (conf g fm t) (m .number) r)
 
 abbrev pub LowestByIs : List ℕ → List ℕ → List ℕ → List ℕ → Rules → Moment → Thread → Bool → ℕ → Type 0
 LowestByIs l places f table rules m t endless r =
