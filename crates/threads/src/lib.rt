@@ -277,8 +277,8 @@ fn may_end(
     step::can_end(f, table, &kinds, s, &held, &prior, &values, &there)
 }
 
-// The least of the best so far and of the runs that end on the event by a step of a slot's thread. A thread is loaded only where a step
-// of it may end a run, and its trail is compared only where one does.
+// The least of the best so far and of the runs that end on the event by a step of a slot's thread. Its trail is compared only where one
+// does.
 fn ending_at(
     best: Best,
     work: &[u32],
@@ -294,9 +294,6 @@ fn ending_at(
     requires { ⌜ Seated seats (now work) × (moment .number < 1024) × (j < seats .count) ⌝ }
     ensures { λ r. ⌜ EndedIs (now (l .entry)) (now (places .entry)) (now (f .entry)) (now (table .entry)) rules moment best (threadAt (now (work .entry)) (place (seats .half) j)) r ⌝ }
 {
-    if !may_end(work, j, seats.half, f, table, rules, moment) {
-        return best;
-    }
     let t = slots::load_slot(work, j, seats.half);
     if 8 <= step::first_taken(l, places, f, table, rules, moment, t, true) {
         return best;
@@ -304,7 +301,7 @@ fn ending_at(
     ending_of(best, l, places, f, table, rules, moment, t)
 }
 
-// The least run that ends on the event, of the threads that wait.
+// The least run that ends on the event, of the threads that wait. One that cannot end a run is not loaded.
 pub fn ending(
     work: &[u32],
     seats: Seats,
@@ -322,10 +319,14 @@ pub fn ending(
         found: false,
         thread: slots::origin(),
     };
-    let mut j: usize = 0;
-    while j < seats.count {
+    let mut next: usize = 0;
+    while next < seats.count {
+        let j = next;
+        next += 1;
+        if !may_end(work, j, seats.half, f, table, rules, moment) {
+            continue;
+        }
         best = ending_at(best, work, seats, l, places, f, table, rules, moment, j);
-        j += 1;
     }
     best
 }
