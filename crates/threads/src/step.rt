@@ -28,7 +28,7 @@ fn differ(a: bool, b: bool) -> bool
 }
 
 // Whether step k of a state may end runs on the event, or, with `ends` false, may leave what waits, as far as its target, the event's
-// table, and the variables held by a thread tell. For speed alone: a function that always says so would meet the contract.
+// table and the variables that a thread holds tell. For speed alone: one that says so of every step in the table would meet the contract.
 pub fn may(
     f: &[u8],
     table: &[usize],
