@@ -502,8 +502,9 @@ fn idles(work: &[u32], slot: usize, half: usize, table: &[usize], rules: Rules) 
     false
 }
 
-// Sifts the thread of slot j, on an event on which no thread ends a run: if it stays it becomes the last of those that do, in the front of the half; what its moves leave that may
-// wait is inserted into the list in the other half. A thread that idles, with none dropped before it, is not loaded.
+// Sifts the thread of slot j on an event on which no thread ends a run: if it stays it becomes the last of those that do, in the front of
+// the half; what its moves leave that may wait is inserted into the list in the other half. A thread that idles, with none dropped
+// before it, is not loaded.
 fn sift_one(
     work: &mut [u32],
     seats: Seats,
@@ -614,8 +615,8 @@ fn merge(
     count
 }
 
-// The waiting list after an event on which no run ends, in the half of the one before it: threads that stay are distinct, so only what moved is inserted.
-// Its count, one more than the slots where it needs more.
+// The waiting list after an event on which no run ends, in the half of the one before it: threads that stay are distinct, so only what
+// moved is inserted. Its count, one more than the slots where it needs more.
 pub fn settle(
     work: &mut [u32],
     seats: Seats,

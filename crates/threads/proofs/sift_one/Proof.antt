@@ -81,7 +81,8 @@ returns-2 c =
           let e = c8 .load-slot .ensures ∙ s .behind (a .j) (omega arith) (p .4) in
           let go = kept-at g fm (z .half) (z .count) before (a .j) t kept (p .4) e in
           inr (sifting-stopped g fm (a .moment .number) z before (a .j) (a .done) (now (a .work)) v t (p .4) e (c7 .choice-of .result)
-          (c7 .choice-of .ensures .1 g fm scene (go .fit) (λ o. ends-none g fm (z .half) (z .count) before (a .j) t (p .4) e (a .moment .number) quiet)) (x .last .0) (x .result) (x .ensures .1 g fm scene (v .moved-kept) go) (c .if3 .taken)),
+          (c7 .choice-of .ensures .1 g fm scene (go .fit)
+          (λ o. ends-none g fm (z .half) (z .count) before (a .j) t (p .4) e (a .moment .number) quiet)) (x .last .0) (x .result) (x .ensures .1 g fm scene (v .moved-kept) go) (c .if3 .taken)),
     )
 
 remain-requires : tie.Need-remain-requires

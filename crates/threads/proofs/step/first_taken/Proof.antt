@@ -48,7 +48,8 @@ steps-again c =
     let k = c8 .steps .next in (
       omega (arith, c7 .if1 .left),
       below-next (PassedOver (now (a .f)) (now (a .table)) (a .rules .kinds) (a .t .config) (c9 .fresh-at .result) (a .moment .event) (a .ends)) k (c8 .steps .inv .1)
-          (passed-leads (now (a .f)) (now (a .table)) (a .rules .kinds) (a .t .config) (c9 .fresh-at .result) (a .moment .event) (a .ends) k (c .before .may .ensures .0 (not-true _ (c .if2 .taken)) (omega (arith, c7 .if1 .left)))),
+          (passed-leads (now (a .f)) (now (a .table)) (a .rules .kinds) (a .t .config) (c9 .fresh-at .result) (a .moment .event) (a .ends) k
+          (c .before .may .ensures .0 (not-true _ (c .if2 .taken)) (omega (arith, c7 .if1 .left)))),
     )
 
 cast-step-offset : tie.Need-cast-step-offset Inv-steps μ-steps
@@ -73,7 +74,8 @@ steps-again-2 c =
     let y = c .before .before .step-offset in (
       omega (arith, c10 .if1 .left),
       below-next (PassedOver (now (a .f)) (now (a .table)) (a .rules .kinds) (a .t .config) (c12 .fresh-at .result) (a .moment .event) (a .ends)) k (c11 .steps .inv .1)
-          (passed-quiet (now (a .f)) (now (a .table)) (a .rules .kinds) (a .t .config) (c12 .fresh-at .result) (a .moment .event) (a .ends) k (omega (arith, c10 .if1 .left)) (y .result) (y .ensures)
+          (passed-quiet (now (a .f)) (now (a .table)) (a .rules .kinds) (a .t .config) (c12 .fresh-at .result) (a .moment .event) (a .ends) k
+          (omega (arith, c10 .if1 .left)) (y .result) (y .ensures)
           (sym (c .before .passes .ensures) ∙ c .if3 .left)),
     )
 
