@@ -1,5 +1,7 @@
 // The program: reads log.bin and formula.bin, lends 64 slots (the paper's seats), and prints a line for each event, all in one write.
 // Where the system refuses to open, read or write, it stops, and a line on standard error says what failed and why.
+#![tactic(auto)]
+
 ghost use Rattle.std.specs.Prelude.{◌≡◌, ◌+◌, ◌≤◌, length};
 ghost use Rattle.refusal.specs.Refusals.{report_of};
 ghost use Rattle.text.specs.inner.Adds.{Adds};
@@ -10,7 +12,7 @@ use libc::STDOUT_FILENO;
 use refusal::Refusal;
 
 // What was read of a file: whether every read succeeded, and how many bytes.
-#[derive(Drop)]
+#[derive(Clone, Copy)]
 struct Loaded {
     ok: bool,
     len: usize,

@@ -1,4 +1,6 @@
 // The analysis: a row for every event of the log.
+#![tactic(auto)]
+
 ghost use Rattle.std.specs.Prelude.{◌≡◌, cond, ◌+◌, ◌-◌, ◌*◌, ◌≤◌, ltb, length, get_or, take, drop};
 ghost use Rattle.base.specs.Mask.{bits_of};
 ghost use Rattle.search_code.specs.inner.Turn.{stretch_end};
@@ -14,7 +16,7 @@ use search::{SearchAnswer, Verdict};
 use search_code::Scope;
 
 // A start's named run, as its row holds it.
-#[derive(Drop)]
+#[derive(Clone, Copy)]
 struct RowRun {
     accepts: bool,
     last: u32,

@@ -1,4 +1,6 @@
 // Bytes and values, which every reader of a file takes apart; tests, masks, the lower of two numbers.
+#![tactic(auto)]
+
 ghost use Rattle.std.specs.Prelude.{◌≡◌, false, ◌&&◌, ◌+◌, ◌<◌, ◌≤◌, min, get_or, length};
 ghost use Rattle.base.specs.Value.{value_at};
 ghost use Rattle.base.specs.Lists.{pad};

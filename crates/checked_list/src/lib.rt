@@ -1,1 +1,2 @@
 // The cases of the paper: those proved against the definitions stand in proofs/.
+#![tactic(auto)]

@@ -1,4 +1,6 @@
 // The states that paths reach without binding a variable.
+#![tactic(auto)]
+
 ghost use Rattle.std.specs.Prelude.{◌≡◌, true, false, ◌≤◌, ◌<◌, get_or, set};
 ghost use Rattle.closure.specs.inner.Reach.{edges, mark_by, round_from, reach_of, Free, Stored};
 

@@ -1,4 +1,6 @@
 // The next command of a formula file: taken, END, or its refusal.
+#![tactic(auto)]
+
 ghost use Rattle.std.specs.Prelude.{◌≡◌, not, ◌&&◌, ltb, ◌+◌, ◌-◌, ◌^◌, ◌≤◌, ◌<◌, length};
 ghost use Rattle.formula.specs.Read.{opcode, allowed, room, again, next};
 ghost use Rattle.command_reader.specs.inner.Take.{operands_at, state_at, step_at, tied_at, test_at, testv_at, bind_at, gather_at, guard_at, taken_at, next_end, next_shape};
@@ -9,7 +11,7 @@ use formula::{Opcode, Summary};
 use refusal::{File, Refusal};
 
 // A command of the file with what is kept of it.
-#[derive(Drop)]
+#[derive(Clone, Copy)]
 pub enum Command {
     Tied(usize),
     State(u32),
@@ -22,7 +24,7 @@ pub enum Command {
 }
 
 // The next command with its number of bytes, END, or the refusal.
-#[derive(Drop)]
+#[derive(Clone, Copy)]
 pub enum Next {
     Taken { command: Command, used: usize },
     End,

@@ -1,1 +1,2 @@
 // The three demands as theorems about the public entries; no code.
+#![tactic(auto)]

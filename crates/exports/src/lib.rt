@@ -1,5 +1,7 @@
 // The static library: the readers, the search and the analysis for C and Rust. Each function hands on what the crate below answers, as a
 // struct of numbers. A slice passes as a pointer and a length.
+#![tactic(auto)]
+
 ghost use Rattle.std.specs.Prelude.{◌≡◌};
 ghost use Rattle.exports.specs.Exports.{named, nothing, file_refusal, search_refusal, verdict_number, outcome_refusal};
 ghost use Rattle.exports.specs.Exports.{ExportsLog, ExportsFormula, ExportsSearch, ExportsAnalysis};
@@ -8,7 +10,7 @@ use refusal::{Acceptance, Refusal};
 
 // A refusal's file, number and place; number 0 where nothing is refused.
 #[repr(C)]
-#[derive(Drop)]
+#[derive(Clone, Copy)]
 pub struct Refused {
     pub file: usize,
     pub number: usize,
@@ -17,7 +19,7 @@ pub struct Refused {
 
 // What the log's reader answers.
 #[repr(C)]
-#[derive(Drop)]
+#[derive(Clone, Copy)]
 pub struct LogRead {
     pub refused: Refused,
     pub fields: usize,
@@ -26,7 +28,7 @@ pub struct LogRead {
 
 // What a search answers; verdict 0 none, 1 accept, 2 reject.
 #[repr(C)]
-#[derive(Drop)]
+#[derive(Clone, Copy)]
 pub struct Found {
     pub refused: Refused,
     pub verdict: usize,

@@ -5,12 +5,8 @@ use mathlib.Core.Bool.{false}
 use native.Mathlib.Omega.{arith}
 use borrow.Author.Tests.{ne_eqb}
 use lib.Dec.{eqb}
-use mathlib.Core.List.{[], ◌∷◌}
-use denote.Enum.Declared.{tag_of}
-use types.Run.{OneOf, miss}
 use Rattle.refusal.specs.declared.File.TheVariants.{Formula as InFormula}
 use Rattle.refusal.specs.declared.Refusal.TheVariants.{Surplus}
-use Rattle.expression_reader.specs.contracts.Takes as TakesType
 use Rattle.expression_reader.specs.declared.Takes.{Takes}
 use Rattle.expression_reader.specs.declared.Takes.TheVariants.{Value as TakesValue, Variable as TakesVariable, State as TakesState}
 use Rattle.expression_reader.specs.declared.Takes.TheVariants.{List as TakesList, Operands, Foreign as TakesNothing}
@@ -88,10 +84,10 @@ pub takes-none-above : (b : ℕ) → 0x2E < b → TakesNothing ≡ takes (expr_o
 takes-none-above b h = takes-nothing b (λ n p q. ne_eqb b n (λ e. omega arith))
 
 -- what begins an expression is surplus
-pub over-begun : (t : Takes) (at : ℕ) → OneOf (0 ∷ 1 ∷ 2 ∷ 3 ∷ 4 ∷ []) (tag_of TakesType.the_type t) → Bad (Surplus InFormula at) ≡ over t at
+pub over-begun : (t : Takes) (at : ℕ) → (t ≡ TakesNothing → ⊥) → Bad (Surplus InFormula at) ≡ over t at
 over-begun TakesValue at h = refl
 over-begun TakesVariable at h = refl
 over-begun TakesState at h = refl
 over-begun TakesList at h = refl
 over-begun (Operands n) at h = refl
-over-begun TakesNothing at h = absurd (miss (0 ∷ 1 ∷ 2 ∷ 3 ∷ 4 ∷ []) 5 tt h)
+over-begun TakesNothing at h = absurd (h refl)

@@ -1,4 +1,6 @@
 // A GUARD's expression: read in prefix order by recursion, with its VARs and COUNTs noted.
+#![tactic(auto)]
+
 pub mod places;
 
 ghost use Rattle.std.specs.Prelude.{◌≡◌, ◌+◌, ◌^◌, ◌<◌, length};
@@ -9,7 +11,7 @@ use crate::places::{note, note_var, state_key};
 use refusal::{File, Refusal};
 
 // What an expression command takes: a value, a variable, a state, a list, or a number of operands.
-#[derive(Drop)]
+#[derive(Clone, Copy)]
 enum Takes {
     Value,
     Variable,
@@ -20,7 +22,7 @@ enum Takes {
 }
 
 // The front of an expression: bytes used, commands still allowed, operands still to come.
-#[derive(Drop)]
+#[derive(Clone, Copy)]
 pub struct Prefix {
     pub used: usize,
     pub left: usize,
@@ -28,7 +30,7 @@ pub struct Prefix {
 }
 
 // The front of an expression, or the refusal of a command in it.
-#[derive(Drop)]
+#[derive(Clone, Copy)]
 pub enum ExprRead {
     Taken(Prefix),
     Bad(Refusal),

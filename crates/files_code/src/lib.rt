@@ -1,4 +1,6 @@
 // Reading the two files of a call: the log, then the formula against it.
+#![tactic(auto)]
+
 ghost use Rattle.std.specs.Prelude.{◌≡◌};
 ghost use Rattle.files_code.specs.inner.Reading.{first_of, ReadsFiles};
 
@@ -7,7 +9,7 @@ use formula_code::FormulaReading;
 use refusal::Acceptance;
 
 // Whether both files are accepted; then, what their readers found.
-#[derive(Drop)]
+#[derive(Clone, Copy)]
 pub struct FilesReading {
     pub acceptance: Acceptance,
     pub log: LogReading,

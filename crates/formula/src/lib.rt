@@ -1,8 +1,9 @@
 // The formula file: what decides about its next command, in the definition and in the code that reads it.
+#![tactic(auto)]
 
 // How many TIEDs, states, steps of the last state and clauses of the last step were read; whether the last state accepts or rejects, and so takes no
 // step; whether the last step has its GUARD; the lists that it gathers into so far.
-#[derive(Drop)]
+#[derive(Clone, Copy)]
 pub struct Summary {
     pub tied: usize,
     pub states: usize,
@@ -14,7 +15,7 @@ pub struct Summary {
 }
 
 // The command that a byte names.
-#[derive(Drop)]
+#[derive(Clone, Copy)]
 pub enum Opcode {
     End,
     State,

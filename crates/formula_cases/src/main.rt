@@ -2,6 +2,8 @@
 // byte set to 0, 1, 2, 17 and 255, on a gathering formula, cut and with some bytes set, and on one with all 128 steps that there may be,
 // against a log of two fields, and prints each answer: the file, number and place of a refusal, or an accepted formula's number of
 // states and the state, number and offset of each step.
+#![tactic(auto)]
+
 use libc::STDOUT_FILENO;
 use refusal::Acceptance;
 

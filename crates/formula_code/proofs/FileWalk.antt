@@ -4,13 +4,9 @@ use mathlib.Core.Path.{◌≡◌, refl, sym, ap, ◌∙◌, subst}
 use mathlib.Core.Bool.{Bool}
 use mathlib.Core.List.{List, [], ◌∷◌}
 use native.Mathlib.Omega.{arith}
-use mathlib.Core.Logic.{⊎_elim}
-use denote.Enum.Declared.{tag_of}
-use types.Run.{OneOf}
 use lib.ListN.{length, take, drop, length-append, length-drop}
 use Rattle.base.proofs.Lists.{rest-drop}
 use Rattle.base.specs.Lists.{Bytes}
-use Rattle.command_reader.specs.contracts.Next as NextType
 use Rattle.formula.specs.Correct.{Exists}
 use Rattle.formula.specs.declared.Summary.{Summary}
 use Rattle.formula_code.specs.declared.Draft.{Draft}
@@ -203,10 +199,10 @@ module _ (fields : ℕ) (l : List ℕ) where
       }
 
   -- END or a refusal by its case, as a `let .. else` finds it
-  ends_so : (d : Draft) (x : Read) (t : List ℕ) → SoFar d → next_end x t ≡ next_from fields l d → OneOf (1 ∷ 2 ∷ []) (tag_of NextType.the_type x)
+  ends_so : (d : Draft) (x : Read) (t : List ℕ) → SoFar d → next_end x t ≡ next_from fields l d → ((c : Kept) (u : ℕ) → x ≡ Taken c u → ⊥)
       → finished_with (placed d t) x ≡ scan_file fields l
   unfolding next_from
-  ends_so d (Taken c u) t h e k = absurd (⊎_elim (λ z. omega (arith, z)) (λ z. omega (arith, z)) k)
+  ends_so d (Taken c u) t h e k = absurd (k c u refl)
   ends_so d End t h e k =
       let q : t ≡ d.places =
       subst (Ends d.places) (sym e)
@@ -220,7 +216,7 @@ module _ (fields : ℕ) (l : List ℕ) where
   finished-in P d End h k = h
   finished-in P d (Bad r) h k = k
 
-  pub scanned : (d : Draft) (x : Read) (t : List ℕ) (r : Scan) → SoFar d → next_end x t ≡ found d → OneOf (1 ∷ 2 ∷ []) (tag_of NextType.the_type x)
+  pub scanned : (d : Draft) (x : Read) (t : List ℕ) (r : Scan) → SoFar d → next_end x t ≡ found d → ((c : Kept) (u : ℕ) → x ≡ Taken c u → ⊥)
       → r ≡ finished_with (placed d t) x → Scanned fields l r
   unfolding empty_draft
   scanned d x t r h e k q =

@@ -1,5 +1,4 @@
 -- Laws that the reader of a formula rests on.
-pub mod Unchanged
 pub mod FileWalk
 pub mod SameCommands
 pub mod Outline

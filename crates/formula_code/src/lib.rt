@@ -1,4 +1,6 @@
 // The formula file: reading it.
+#![tactic(auto)]
+
 mod keeping;
 
 ghost use Rattle.std.specs.Prelude.{◌≡◌, List, length};
@@ -20,7 +22,7 @@ use refusal::{Acceptance, File, Refusal, refusal_of};
 // Whether a formula is accepted, and of an accepted one its number of states, their kinds (0 ordinary, 1 committed, 2 accept,
 // 3 reject), where its steps begin (step k of state s at s * 8 + k, 0 where there is none) and the mask of its tied variables (bit v
 // set where variable v is tied).
-#[derive(Drop)]
+#[derive(Clone, Copy)]
 pub struct FormulaReading {
     pub acceptance: Acceptance,
     pub states: usize,
@@ -30,7 +32,7 @@ pub struct FormulaReading {
 }
 
 // What was kept of the file before `at`.
-#[derive(Drop)]
+#[derive(Clone, Copy)]
 struct Draft {
     at: usize,
     summary: Summary,
@@ -50,7 +52,7 @@ struct Draft {
 }
 
 // How the commands of a file end, and what was kept of them.
-#[derive(Drop)]
+#[derive(Clone, Copy)]
 struct Scan {
     acceptance: Acceptance,
     draft: Draft,

@@ -12,7 +12,7 @@ use lib.Seq.{get_or-drop, drop-drop, take_all, take-suc}
 use lib.Dec.{ltb, leb, eqb}
 use Rattle.base.specs.Lists.{pad}
 use Rattle.base.specs.Value.{value_at}
-use Rattle.base.proofs.Lists.{rest-drop, length-pad, set-pad, pad-whole}
+use Rattle.base.proofs.Lists.{rest-drop, set-pad, pad-whole}
 use Rattle.machine.specs.Guard.{truth}
 use Rattle.guard_code.specs.inner.Bytes.{operands_of, applied, leaf_first, leaf_in, leaf_value, leaf_width, leaf_whole, Evaluated, nothing}
 use Rattle.guard_code.specs.inner.Bytes.{evaluated_third, evaluated_second, evaluated_first, leaf_or, compound, evaluated, guard_at}
@@ -382,17 +382,6 @@ laid-leaves values counters tallies {l₁} {l₂} {l₃} l p q r z f g h =
     let n : length ((values ++ tallies) ++ counters) ≡ 36 = omega (arith, length-append values tallies, length-append (values ++ tallies) counters) in
     c ∙ pad-whole 36 0 ((values ++ tallies) ++ counters) n ∙ append_assoc values tallies counters
     ∙ rw (pad-whole 8 0 values p, pad-whole 12 0 tallies q)
-
-pub laid-long : (values counters tallies : List ℕ) {l : List ℕ} → l ≡ pad 8 0 values ++ (pad 12 0 tallies ++ counters) → length counters ≡ 16 → length l ≡ 36
-laid-long values counters tallies e h =
-    rw e
-    (omega (
-      arith,
-      length-append (pad 8 0 values) (pad 12 0 tallies ++ counters),
-      length-append (pad 12 0 tallies) counters,
-      length-pad 8 0 values,
-      length-pad 12 0 tallies,
-    ))
 
 -- the guard at an offset, lent as the part behind its command
 pub guard-read : (values counters tallies leaves f : List ℕ) (at : ℕ) {o : ℕ} {r : Bool} → o ≡ get_or f at 0 → o ≡ 0x15

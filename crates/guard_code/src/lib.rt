@@ -1,9 +1,11 @@
 // Guards over the formula's bytes: the value of an expression, and whether it is rising or falling.
+#![tactic(auto)]
+
 pub mod guard;
 pub mod trends;
 
 // Which leaves are rising, or which are falling: the variables, the sums and the numbers of different values of the lists.
-#[derive(Drop)]
+#[derive(Clone, Copy)]
 pub struct Marks {
     pub variables: [bool; 8],
     pub sums: [bool; 4],
@@ -11,7 +13,7 @@ pub struct Marks {
 }
 
 // Whether an expression is rising, or falling, and the bytes that it took.
-#[derive(Drop)]
+#[derive(Clone, Copy)]
 struct Judged {
     yes: bool,
     used: usize,

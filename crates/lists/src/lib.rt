@@ -1,4 +1,6 @@
 // The lists of a thread, read back from its trail: a slot holds no list, but what a trail's steps gathered follows from the log and the formula.
+#![tactic(auto)]
+
 ghost use Rattle.std.specs.Prelude.{◌≡◌, false, ◌+◌, ◌*◌, ◌/◌, ◌%◌, ◌<◌, min, length, get_or, take, replicate};
 ghost use Rattle.lists.specs.inner.Words.{add_in, gather_in, gather_step, entry_in, target_in, read_back, meets, new_in, FreshIs};
 

@@ -1,6 +1,6 @@
 -- On a log without 03 a step fires, and is hopeless, in the words that the paper had before there were absent fields, and a search is answered as it was.
 use Prim.Native.Nat.{ℕ, suc, ◌<◌}
-use mathlib.Core.Path.{◌≡◌, refl, ap, ◌∙◌}
+use mathlib.Core.Path.{◌≡◌, refl, ap, sym, subst, ◌∙◌}
 use mathlib.Core.Bool.{Bool, true, false, not, ◌&&◌, ◌||◌, cond}
 use mathlib.Core.List.{List, [], ◌∷◌, map}
 use mathlib.Core.Option.{Option, none, some}
@@ -221,7 +221,7 @@ module _ (ks : List Kind) (vs : List (List ℕ)) (fm : Formula) (one : All (λ (
     reads : (s k : ℕ) (t : Step) → step_at fm s k ≡ some t → All (λ (c : Clause). Exists (length values) (CLAUSE c)) t.clauses
     unfolding step_commands
     reads s k t e =
-        rw (All-at (λ (v : List ℕ). length v ≡ length ks) vs n [] one h)
+        subst (λ m. All (λ (c : Clause). Exists m (CLAUSE c)) t.clauses) (sym (All-at (λ (v : List ℕ). length v ≡ length ks) vs n [] one h))
         (clauses-exist (length ks) t.clauses t.guard (right-step (length ks) fm s k t right e).exist.1)
 
     pub fires-before : (c : Config) (k : ℕ) → fire_at log fm c n k ≡ fire_by_before (step_at fm c.state k) c values

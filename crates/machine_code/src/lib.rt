@@ -1,4 +1,6 @@
 // One step of the semantics over the formula's bytes: clauses, firing, expiry, and the steps of a state by number.
+#![tactic(auto)]
+
 mod clauses;
 pub mod expiring;
 pub mod firing;
@@ -9,7 +11,7 @@ pub mod steps;
 
 // "A configuration is a state, the held variables with values, and a counter per state"; a value is 0 where its variable is not held.
 // Of the 4 lists it holds only what guards read: their sums, their lengths, their numbers of different values.
-#[derive(Drop)]
+#[derive(Clone, Copy)]
 pub struct Configuration {
     pub state: u32,
     pub held: [bool; 8],
@@ -21,7 +23,7 @@ pub struct Configuration {
 // A walk over a step's clauses: where it stands, whether every clause so far passes, whether one is past due, whether one is a
 // GATHER, the variables held so far with their values, and those whose value only grows: held before the step, or first bound
 // to a rising field that has a value.
-#[derive(Drop)]
+#[derive(Clone, Copy)]
 struct Walked {
     at: usize,
     passes: bool,
@@ -34,7 +36,7 @@ struct Walked {
 
 // What a step's GATHERs leave: the tallies, the lists into which every field gathered is rising and has a value, and those into which
 // none was gathered.
-#[derive(Drop)]
+#[derive(Clone, Copy)]
 struct Gained {
     tallies: [u32; 12],
     rising: [bool; 4],
@@ -42,7 +44,7 @@ struct Gained {
 }
 
 // Whether a step fires, and the configuration that it leaves.
-#[derive(Drop)]
+#[derive(Clone, Copy)]
 pub struct Fired {
     pub fires: bool,
     pub config: Configuration,

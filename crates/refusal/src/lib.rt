@@ -1,17 +1,19 @@
 // Refusals: what a file or a call is refused with, and the file, number and place that an answer names; and whether a file is accepted.
+#![tactic(auto)]
+
 ghost use Rattle.std.specs.Prelude.{◌≡◌};
 ghost use Rattle.refusal.specs.Refusals.{report_of};
 ghost use Rattle.refusal.specs.inner.Acceptance.{refusal_of};
 
 // The file that a refusal speaks of; 9, 10 and 11 speak of the call, file 3.
-#[derive(Drop)]
+#[derive(Clone, Copy)]
 pub enum File {
     Log,
     Formula,
 }
 
 // One case for each refusal, in the order of their numbers. A place in a file is the offset of a command's first byte.
-#[derive(Drop)]
+#[derive(Clone, Copy)]
 pub enum Refusal {
     // 1: operands run past the end; with END missing, the file length
     CutShort { file: File, place: usize },
@@ -42,14 +44,14 @@ pub enum Refusal {
 }
 
 // Whether a file is accepted.
-#[derive(Drop)]
+#[derive(Clone, Copy)]
 pub enum Acceptance {
     Accepted,
     Refused(Refusal),
 }
 
 // What an answer names: the file (1 log, 2 formula, 3 the call), the number and the place.
-#[derive(Drop)]
+#[derive(Clone, Copy)]
 pub struct Report {
     pub file: usize,
     pub number: usize,

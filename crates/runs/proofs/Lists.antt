@@ -39,7 +39,7 @@ module _ {A : Type 0} where
       go (inl e) ih = record { member = Memᴰ.head e.1; passes = ap p e.1 ∙ e.0 }
       go (inr r) ih = record { member = Memᴰ.tail (ih r).member; passes = (ih r).passes }
 
-  pub keep_out : (p : A → Bool) {xs : List A} {a : A} → In a xs → p a ≡ true → In a (keep p xs)
+  pub keep_out : (p : A → Bool) {a : A} {xs : List A} → In a xs → p a ≡ true → In a (keep p xs)
   unfolding keep
   keep_out p (Memᴰ.head {x = x} {xs = xs} e) t = subst (λ b. In b (keep p (x ∷ xs))) (sym e) (only-first (keep p xs) (ap p (sym e) ∙ t))
   keep_out p (Memᴰ.tail {x = x} {xs = xs} m) t = only-rest (p x) x (keep_out p m t)
@@ -59,7 +59,7 @@ module _ {A : Type 0} where
       go (inl h) ih = record { giver = b; member = Memᴰ.head refl; gives = h }
       go (inr r) ih = record { giver = (ih r).giver; member = Memᴰ.tail (ih r).member; gives = (ih r).gives }
 
-  pub turn-out : {B : Type 0} (f : B → List A) {bs : List B} {b : B} {a : A} → In b bs → In a (f b) → In a (in_turn f bs)
+  pub turn-out : {B : Type 0} (f : B → List A) {b : B} {a : A} {bs : List B} → In b bs → In a (f b) → In a (in_turn f bs)
   unfolding in_turn
   turn-out f {a = a} (Memᴰ.head {x = x} {xs = xs} e) g = Memᴰ.append_left (in_turn f xs) (subst (λ y. In a (f y)) e g)
   turn-out f (Memᴰ.tail {x = x} {xs = xs} m) g = Memᴰ.append_right (f x) (turn-out f m g)
@@ -78,7 +78,7 @@ module _ {A : Type 0} where
       go (inl e) ih = record { source = b; member = Memᴰ.head refl; is = e }
       go (inr r) ih = record { source = (ih r).source; member = Memᴰ.tail (ih r).member; is = (ih r).is }
 
-  pub map-out : {B : Type 0} (f : B → A) {bs : List B} {b : B} → In b bs → In (f b) (map f bs)
+  pub map-out : {B : Type 0} (f : B → A) {b : B} {bs : List B} → In b bs → In (f b) (map f bs)
   map-out f (Memᴰ.head e) = Memᴰ.head (ap f e)
   map-out f (Memᴰ.tail m) = Memᴰ.tail (map-out f m)
 

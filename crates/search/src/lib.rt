@@ -1,8 +1,10 @@
 // The search for the least run from one event of a log.
+#![tactic(auto)]
+
 use refusal::Refusal;
 
 // What a search answers: a refusal, no run, or a run that accepts or rejects.
-#[derive(Drop)]
+#[derive(Clone, Copy)]
 pub enum Verdict {
     Refused(Refusal),
     Absent,
@@ -12,7 +14,7 @@ pub enum Verdict {
 
 // The answer of a search: of a run its number of steps, their events and step numbers, the variables held at its end with
 // their values, unused entries 0; and the width, the largest number of configurations that waited.
-#[derive(Drop)]
+#[derive(Clone, Copy)]
 pub struct SearchAnswer {
     pub verdict: Verdict,
     pub steps: usize,

@@ -1,6 +1,8 @@
 // Runs the search on stored cases and prints each whole answer on one line: the case's name, start and lent words, then the file,
 // number and place of a refusal, or the verdict, the number of steps, 32 events, 32 step numbers, the mask of held variables (bit v
 // set if variable v is held), 8 values and the width.
+#![tactic(auto)]
+
 ghost use Rattle.std.specs.Prelude.{◌≤◌};
 
 use libc::STDOUT_FILENO;

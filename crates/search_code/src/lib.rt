@@ -1,4 +1,6 @@
 // The search for the least run from one event of a log.
+#![tactic(auto)]
+
 ghost use Rattle.std.specs.Prelude.{◌≡◌, cond, List, [], ◌∷◌, ℕ, ◌+◌, ◌*◌, ◌≤◌, ◌<◌, max, length, get_or, eqb};
 ghost use Rattle.slots.specs.inner.Threads.{origin_thread};
 ghost use Rattle.slots.specs.inner.Words.{list};
@@ -18,7 +20,7 @@ use slots::Thread;
 use threads::{Moment, Rules, Seats};
 
 // What one event does to a search: a run ends on it, more wait than there are slots, or so many wait after it.
-#[derive(Drop)]
+#[derive(Clone, Copy)]
 enum Outcome {
     Found,
     Crowded,
@@ -26,14 +28,14 @@ enum Outcome {
 }
 
 // The outcome, and the thread of the run that was found.
-#[derive(Drop)]
+#[derive(Clone, Copy)]
 struct Turn {
     outcome: Outcome,
     thread: Thread,
 }
 
 // A trail's number of steps, their events and their step numbers, unused entries 0.
-#[derive(Drop)]
+#[derive(Clone, Copy)]
 struct Entries {
     steps: usize,
     events: [u32; 32],
@@ -41,7 +43,7 @@ struct Entries {
 }
 
 // What a search is over: the log's number of events, the rules, and how many slots there are.
-#[derive(Drop)]
+#[derive(Clone, Copy)]
 pub struct Scope {
     pub events: usize,
     pub rules: Rules,

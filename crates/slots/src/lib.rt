@@ -1,4 +1,6 @@
 // Threads kept in lent words: loading and storing a slot (the paper's seat), and inserting a thread into a list of them.
+#![tactic(auto)]
+
 ghost use Rattle.std.specs.Prelude.{◌≡◌, ◌++◌, map, eqb, ◌+◌, ◌*◌, ◌^◌, ◌≤◌, ◌<◌, min, length, get_or, drop};
 ghost use Rattle.std.specs.Bool.{beq};
 ghost use Rattle.runs.specs.inner.Order.{lex, order};
@@ -10,7 +12,7 @@ ghost use Rattle.slots.specs.inner.Words.{is_set, words_of, thread_of, thread_at
 use machine_code::Configuration;
 
 // A configuration with its trail: the number of steps taken and, for each of them, event * 8 + step number.
-#[derive(Drop)]
+#[derive(Clone, Copy)]
 pub struct Thread {
     pub config: Configuration,
     pub steps: u32,
@@ -36,7 +38,7 @@ pub fn origin() -> Thread
 }
 
 // How one list of numbers compares with another.
-#[derive(Drop)]
+#[derive(Clone, Copy)]
 enum Side {
     Lesser,
     Equal,
@@ -150,7 +152,7 @@ pub fn load_slot(work: &[u32], slot: usize, half: usize) -> Thread
 }
 
 // The variables that a thread holds, with their values.
-#[derive(Drop)]
+#[derive(Clone, Copy)]
 pub struct Bound {
     pub held: [bool; 8],
     pub values: [u32; 8],

@@ -2,6 +2,8 @@
 // is expired (the paper's hopeless) after 599, 600 and 601, on a rising and on a plain field, and one whose guard bounds the sum of
 // such a field; the same of steps that read a time that never arrived; which events fire which steps of F, and which steps fire on
 // an event without a time; and where the steps of a formula stand.
+#![tactic(auto)]
+
 use event_log::{Event, Latest};
 use libc::STDOUT_FILENO;
 use machine_code::Configuration;

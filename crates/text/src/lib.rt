@@ -1,6 +1,8 @@
 // The program's text: the line of an event's row, and the line of a refusal, in lent bytes.
 //
 // Each function behind them adds one part to the text so far, the first `at` bytes of `out`, and answers how long the text is then.
+#![tactic(auto)]
+
 ghost use Rattle.std.specs.Prelude.{cond, [], ◌∷◌, ◌++◌, ◌+◌, ◌≤◌, ◌<◌, ◌^◌, length};
 ghost use Rattle.refusal.specs.Refusals.{report_of};
 ghost use Rattle.text.specs.Text as Text;

@@ -1,4 +1,6 @@
 // One event of a search: the runs that end on it, and the waiting list after it, with threads in lent words.
+#![tactic(auto)]
+
 mod gathered;
 mod insertion;
 mod step;
@@ -14,7 +16,7 @@ use slots::Thread;
 
 // What stays from event to event: the kind of each state (0 ordinary, 1 committed, 2 accept, 3 reject), which fields
 // rise, how many fields the log has, and states some step of which never expires.
-#[derive(Drop)]
+#[derive(Clone, Copy)]
 pub struct Rules {
     pub kinds: [u32; 16],
     pub rises: [bool; 8],
@@ -23,7 +25,7 @@ pub struct Rules {
 }
 
 // An event with its number, and the values by which steps are judged expired after it.
-#[derive(Drop)]
+#[derive(Clone, Copy)]
 pub struct Moment {
     pub number: u32,
     pub event: Event,
@@ -31,7 +33,7 @@ pub struct Moment {
 }
 
 // Where a list of threads stands: the half of the slots, its count of threads, and how many slots there are.
-#[derive(Drop)]
+#[derive(Clone, Copy)]
 pub struct Seats {
     pub half: usize,
     pub count: usize,
@@ -39,21 +41,21 @@ pub struct Seats {
 }
 
 // The least thread so far, if one was found.
-#[derive(Drop)]
+#[derive(Clone, Copy)]
 pub struct Best {
     pub found: bool,
     pub thread: Thread,
 }
 
 // Whether a step fires, and the thread that it leaves.
-#[derive(Drop)]
+#[derive(Clone, Copy)]
 pub struct Move {
     pub fires: bool,
     pub thread: Thread,
 }
 
 // The steps that a thread may take on an event, those numbered from `from` on and below `to`, and whether it may stay.
-#[derive(Drop)]
+#[derive(Clone, Copy)]
 struct Choice {
     from: u32,
     to: u32,
@@ -61,7 +63,7 @@ struct Choice {
 }
 
 // How many threads of a waiting list stay on the event, and how many threads their moves leave.
-#[derive(Drop)]
+#[derive(Clone, Copy)]
 struct Sifted {
     stayed: usize,
     moved: usize,

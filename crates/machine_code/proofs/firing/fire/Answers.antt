@@ -1,0 +1,22 @@
+-- `firing::fire` meets its contract: the walk, the counters raised, the guard.
+use Rattle.event_log.specs.Arrays.{in_event}
+use borrow.Author.Tests.{not-true, not-false}
+use Rattle.machine_code.proofs.FiringOnBytes.{fired-out, fired-guard, fired-failed}
+use Rattle.machine_code.proofs.firing.fire.Goals as goal
+
+pub returns-then-f-at : goal.returns-then-f-at
+returns-then-f-at c =
+    let a = c.args in fired-out a.f.now a.at a.c a.fresh (in_event a.event) c.if-f-at.true
+
+pub returns-then-not-w : goal.returns-then-not-w
+returns-then-not-w c =
+    let a = c.args in
+    fired-failed a.f.now a.at a.c a.fresh (in_event a.event) c.walk-w.result c.if-f-at.false
+    c.walk-w.ensures (not-true _ c.if-not-w.true)
+
+pub returns : goal.returns
+returns c =
+    let a = c.args in
+    fired-guard a.f.now a.at a.c a.fresh (in_event a.event) c.walk-w.result c.if-f-at.false c.walk-w.ensures c.raise-counters.result
+    c.byte_at-target.result c.gains-g.result c.guard_holds.result (not-false _ c.if-not-w.false) c.raise-counters.ensures c.byte_at-target.ensures.0
+    c.gains-g.ensures c.guard_holds.ensures

@@ -1,0 +1,8 @@
+-- `search_code::no_run` meets its contract.
+use Rattle.base.specs.Lists.{pad}
+use mathlib.Core.Path.{refl}
+use Rattle.search_code.proofs.no_run.Goals as goal
+
+pub returns : goal.returns
+unfolding pad
+returns c = refl
