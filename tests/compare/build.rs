@@ -17,8 +17,8 @@ fn main() {
     println!("cargo:rerun-if-changed={}", library.display());
     if !library.is_file() {
         eprintln!(
-            "{} is not there: make it by `rt staticlib exports` at the repository's root, \
-             or name its folder in {FOLDER}",
+            "{} is not there: make it by `tests/build` at the repository's root, or \
+             name its folder in {FOLDER}",
             library.display()
         );
         std::process::exit(1);

@@ -8,63 +8,86 @@ ghost use Rattle.text.specs.inner.Adds.{Adds};
 ghost use Rattle.text.specs.Text.{line, lines, refused_line, printed};
 
 use analysis::Outcome;
-use libc::STDOUT_FILENO;
 use refusal::Refusal;
+use std::fs::File;
+use std::io;
+use std::io::{ErrorKind, Read};
+use std::rt::Files;
 
-// What was read of a file: whether every read succeeded, and how many bytes.
+// What was read of a file: how many bytes, and the failure that ended it, if one did.
 #[derive(Clone, Copy)]
 struct Loaded {
-    ok: bool,
+    failure: Option<io::Error>,
     len: usize,
 }
 
 // One read to the buffer from `at` on: no bytes at the file's end, and none where it fails. A read that a signal interrupts counts as failed.
-fn read_more(fd: i32, buffer: &mut [u8], at: usize) -> Loaded
+fn read_more(file: &mut impl Read, buffer: &mut [u8], at: usize) -> Loaded
     requires { at ≤ length buffer.old }
     ensures { at + result.len ≤ length buffer.new }
 {
-    let got = libc::read(fd, &mut buffer[at..]);
-    let len = io::count(got, &buffer[at..]);
-    Loaded { ok: 0 <= got, len }
+    match file.read(&mut buffer[at..]) {
+        Ok(len) => Loaded { failure: None, len },
+        Err(e) => Loaded {
+            failure: Some(e),
+            len: 0,
+        },
+    }
 }
 
 // Reads to the buffer's start until the buffer is full or no more bytes come: the file's end, or a read that failed.
-fn read_all(fd: i32, buffer: &mut [u8]) -> Loaded
+fn read_all(file: &mut impl Read, buffer: &mut [u8]) -> Loaded
     ensures { result.len ≤ length buffer.new }
 {
     let mut at: usize = 0;
     while at < buffer.len() {
-        let more = read_more(fd, buffer, at);
+        let more = read_more(file, buffer, at);
         if more.len == 0 {
             return Loaded {
-                ok: more.ok,
+                failure: more.failure,
                 len: at,
             };
         }
         at += more.len;
     }
-    Loaded { ok: true, len: at }
+    Loaded {
+        failure: None,
+        len: at,
+    }
+}
+
+// Says on standard error what failed and why. Where that cannot be written, there is nowhere else to say it.
+fn say(rt: &impl Eprint, what: &str, why: io::Error) {
+    let _ = eprintln!(rt; "{what}: {why}");
 }
 
 // Loads a file of the folder that the program is run in; a failure is named. A missing file counts as empty; bytes beyond the buffer's
 // 65,536 are not read, because no correct file has as many and they decide nothing.
-fn load(path: &[u8], buffer: &mut [u8]) -> Loaded
+fn load(rt: &(impl Files + Eprint), path: &str, buffer: &mut [u8]) -> Loaded
     ensures { result.len ≤ length buffer.new }
 {
-    let fd = os::open_read(path);
-    if fd < 0 {
-        if os::errno() == libc::ENOENT {
-            return Loaded { ok: true, len: 0 };
-        }
-        os::fail(path);
-        return Loaded { ok: false, len: 0 };
+    let loaded = match File::open(rt, path) {
+        Ok(mut file) => read_all(&mut file, buffer),
+        Err(e) if e.kind() == ErrorKind::NotFound => Loaded {
+            failure: None,
+            len: 0,
+        },
+        Err(e) => Loaded {
+            failure: Some(e),
+            len: 0,
+        },
+    };
+    if let Some(why) = loaded.failure {
+        say(rt, path, why);
     }
-    let loaded = read_all(fd, buffer);
-    if !loaded.ok {
-        os::fail(path);
-    }
-    libc::close(fd);
     loaded
+}
+
+// 65,536 zeros: room for a file.
+fn buffer() -> [u8; 65536]
+    ensures { 65536 ≡ length result }
+{
+    [0; 65536]
 }
 
 // 262,144 zeros: room for the lines of 1,024 events.
@@ -141,22 +164,22 @@ fn answer(l: &[u8], f: &[u8], out: &mut [u8]) -> usize
     }
 }
 
-fn main() {
-    let mut log = io::large_buffer();
-    let mut formula = io::large_buffer();
-    let l = load(b"log.bin", &mut log);
-    if !l.ok {
+fn main(rt: HostRuntime) {
+    let mut log = buffer();
+    let mut formula = buffer();
+    let l = load(&rt, "log.bin", &mut log);
+    if l.failure.is_some() {
         return;
     }
-    let f = load(b"formula.bin", &mut formula);
-    if !f.ok {
+    let f = load(&rt, "formula.bin", &mut formula);
+    if f.failure.is_some() {
         return;
     }
     let m = l.len;
     let n = f.len;
     let mut out = page();
     let end = answer(&log[..m], &formula[..n], &mut out);
-    if !io::write_all(STDOUT_FILENO, &out[..end]) {
-        os::fail(b"standard output");
+    if let Err(why) = rt.write_all(&out[..end]) {
+        say(&rt, "standard output", why);
     }
 }

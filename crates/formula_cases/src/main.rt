@@ -4,93 +4,95 @@
 // states and the state, number and offset of each step.
 #![tactic(auto)]
 
-use libc::STDOUT_FILENO;
 use refusal::Acceptance;
+use std::io;
 
 // A space and a number.
-fn put(n: usize) {
-    io::write_all(STDOUT_FILENO, b" ");
-    io::print_decimal(STDOUT_FILENO, n as u64);
+fn put(rt: &impl Print, n: usize) -> io::Result<()> {
+    print!(rt; " {n}")
 }
 
 // The state, number and offset of the step at index i of the table, if there is one.
-fn put_step(i: usize, at: usize) {
+fn put_step(rt: &impl Print, i: usize, at: usize) -> io::Result<()> {
     if 0 < at {
-        put(i / 8);
-        io::write_all(STDOUT_FILENO, b".");
-        io::print_decimal(STDOUT_FILENO, (i % 8) as u64);
-        io::write_all(STDOUT_FILENO, b"@");
-        io::print_decimal(STDOUT_FILENO, at as u64);
+        put(rt, i / 8)?;
+        print!(rt; ".{}@{at}", i % 8)?;
     }
+    Ok(())
 }
 
 // The steps of a table.
-fn put_steps(table: [usize; 128]) {
+fn put_steps(rt: &impl Print, table: [usize; 128]) -> io::Result<()> {
     let mut i: usize = 0;
     while i < 128 {
-        put_step(i, table[i]);
+        put_step(rt, i, table[i])?;
         i += 1;
     }
+    Ok(())
 }
 
 // What the reader answers, on one line.
-fn show(f: &[u8]) {
+fn show(rt: &impl Print, f: &[u8]) -> io::Result<()> {
     let r = formula_code::read_formula(f, 2);
     let acceptance = r.acceptance;
     match acceptance {
         Acceptance::Accepted => {
-            io::write_all(STDOUT_FILENO, b"accepted");
-            put(r.states);
+            print!(rt; "accepted")?;
+            put(rt, r.states)?;
             let table = r.table;
-            put_steps(table);
+            put_steps(rt, table)?;
         }
         Acceptance::Refused(why) => {
             let t = refusal::report_of(why);
-            io::write_all(STDOUT_FILENO, b"refused");
-            put(t.file);
-            put(t.number);
-            put(t.place);
+            print!(rt; "refused")?;
+            put(rt, t.file)?;
+            put(rt, t.number)?;
+            put(rt, t.place)?;
         }
     }
-    io::write_all(STDOUT_FILENO, b"\n");
+    println!(rt; "")
 }
 
 // What the reader answers to the first n bytes.
-fn show_part(f: &[u8], n: usize) {
+fn show_part(rt: &impl Print, f: &[u8], n: usize) -> io::Result<()> {
     if n <= f.len() {
-        show(&f[..n]);
+        show(rt, &f[..n])?;
     }
+    Ok(())
 }
 
 // A formula of at most 32 bytes, n of them, with one byte set.
-fn show_set(f: [u8; 32], n: usize, at: usize, b: u8) {
+fn show_set(rt: &impl Print, f: [u8; 32], n: usize, at: usize, b: u8) -> io::Result<()> {
     if at < 32 {
         let mut d = f;
         d[at] = b;
-        show_part(&d, n);
+        show_part(rt, &d, n)?;
     }
+    Ok(())
 }
 
 // The n shortest front parts of a formula.
-fn show_cuts(f: [u8; 32], n: usize) {
+fn show_cuts(rt: &impl Print, f: [u8; 32], n: usize) -> io::Result<()> {
     let mut k: usize = 0;
     while k < n {
-        show_part(&f, k);
+        show_part(rt, &f, k)?;
         k += 1;
     }
+    Ok(())
 }
 
 // A formula with every byte set to each of five values.
-fn show_sets(f: [u8; 32], n: usize) {
+fn show_sets(rt: &impl Print, f: [u8; 32], n: usize) -> io::Result<()> {
     let mut at: usize = 0;
     while at < n {
-        show_set(f, n, at, 0);
-        show_set(f, n, at, 1);
-        show_set(f, n, at, 2);
-        show_set(f, n, at, 17);
-        show_set(f, n, at, 255);
+        show_set(rt, f, n, at, 0)?;
+        show_set(rt, f, n, at, 1)?;
+        show_set(rt, f, n, at, 2)?;
+        show_set(rt, f, n, at, 17)?;
+        show_set(rt, f, n, at, 255)?;
         at += 1;
     }
+    Ok(())
 }
 
 // F: trip, then open; 28 bytes.
@@ -135,36 +137,36 @@ fn state_byte(j: usize) -> u8 {
 }
 
 // A formula with 16 such states, all the steps that there may be; 289 bytes.
-fn show_full() {
+fn show_full(rt: &impl Print) -> io::Result<()> {
     let mut f = [0u8; 289];
     let mut i: usize = 0;
     while i < 288 {
         f[i] = state_byte(i % 18);
         i += 1;
     }
-    show(&f);
+    show(rt, &f)
 }
 
 // The gathering formula with one byte set.
-fn show_gathering(at: usize, b: u8) {
-    show_set(gathering(), 22, at, b);
+fn show_gathering(rt: &impl Print, at: usize, b: u8) -> io::Result<()> {
+    show_set(rt, gathering(), 22, at, b)
 }
 
-fn main() {
-    show_cuts(trip_then_open(), 29);
-    show_sets(trip_then_open(), 28);
-    show_cuts(open_then_trip(), 33);
-    show_sets(open_then_trip(), 32);
-    show_cuts(gathering(), 23);
+fn main(rt: HostRuntime) -> io::Result<()> {
+    show_cuts(&rt, trip_then_open(), 29)?;
+    show_sets(&rt, trip_then_open(), 28)?;
+    show_cuts(&rt, open_then_trip(), 33)?;
+    show_sets(&rt, open_then_trip(), 32)?;
+    show_cuts(&rt, gathering(), 23)?;
     // the same list a second time: 12; a byte that names no list, or no field: 3
-    show_gathering(9, 8);
-    show_gathering(6, 9);
-    show_gathering(9, 7);
-    show_gathering(9, 12);
-    show_gathering(8, 2);
-    show_gathering(13, 7);
-    show_gathering(16, 12);
-    show_cuts(several_steps(), 28);
-    show_sets(several_steps(), 27);
-    show_full();
+    show_gathering(&rt, 9, 8)?;
+    show_gathering(&rt, 6, 9)?;
+    show_gathering(&rt, 9, 7)?;
+    show_gathering(&rt, 9, 12)?;
+    show_gathering(&rt, 8, 2)?;
+    show_gathering(&rt, 13, 7)?;
+    show_gathering(&rt, 16, 12)?;
+    show_cuts(&rt, several_steps(), 28)?;
+    show_sets(&rt, several_steps(), 27)?;
+    show_full(&rt)
 }

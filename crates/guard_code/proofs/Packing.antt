@@ -341,9 +341,6 @@ module _ {depth at : ℕ} {leaf : List ℕ → ℕ} {part : List ℕ} {o x k y :
       rw (drop-drop (1 + a.used + b.used) at part, h)
 
 module _ {depth at : ℕ} {leaf : List ℕ → ℕ} {part : List ℕ} {o x k y m z : ℕ} (p : Third depth at leaf part o x k y m z) where
-  pub last-room : {j : ℕ} → j ≡ z / 4294967296 → j < 4294967296
-  last-room e = omega (arith, third-room p.before p.place, p.third.next, evaluated-below (depth - 1) leaf (drop m part))
-
   pub read-three : {j t v w u r : ℕ} → j ≡ z / 4294967296 → o ≡ 0x2B → t ≡ x % 4294967296 → v ≡ y % 4294967296 → w ≡ z % 4294967296
       → u ≡ applied 0x2B t v w → (r % 4294967296 ≡ u) × (r / 4294967296 ≡ j) → Packed r at (compound depth leaf (drop at part))
   unfolding evaluated_second operands_of

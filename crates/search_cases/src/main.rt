@@ -5,36 +5,38 @@
 
 ghost use Rattle.std.specs.Prelude.{◌≤◌};
 
-use libc::STDOUT_FILENO;
 use refusal::Refusal;
 use search::{SearchAnswer, Verdict};
+use std::io;
 
-fn put(text: &[u8]) {
-    io::write_all(STDOUT_FILENO, text);
+fn put(rt: &impl Print, text: &str) -> io::Result<()> {
+    print!(rt; "{text}")
 }
 
 // A text and a number.
-fn put_number(text: &[u8], n: usize) {
-    put(text);
-    io::print_decimal(STDOUT_FILENO, n as u64);
+fn put_number(rt: &impl Print, text: &str, n: usize) -> io::Result<()> {
+    put(rt, text)?;
+    print!(rt; "{n}")
 }
 
 // Number i of a list.
-fn put_entry(i: usize, n: u32) {
+fn put_entry(rt: &impl Print, i: usize, n: u32) -> io::Result<()> {
     if i == 0 {
-        put_number(b" ", n as usize);
+        put_number(rt, " ", n as usize)?;
     } else {
-        put_number(b",", n as usize);
+        put_number(rt, ",", n as usize)?;
     }
+    Ok(())
 }
 
 // Numbers with commas between.
-fn put_list(numbers: &[u32]) {
+fn put_list(rt: &impl Print, numbers: &[u32]) -> io::Result<()> {
     let mut i: usize = 0;
     while i < numbers.len() {
-        put_entry(i, numbers[i]);
+        put_entry(rt, i, numbers[i])?;
         i += 1;
     }
+    Ok(())
 }
 
 // A bit of the mask.
@@ -52,64 +54,86 @@ fn mask(held: [bool; 8]) -> usize {
 }
 
 // A refusal's file, number and place.
-fn put_refusal(why: Refusal) {
+fn put_refusal(rt: &impl Print, why: Refusal) -> io::Result<()> {
     let t = refusal::report_of(why);
-    put_number(b" refused ", t.file);
-    put_number(b" ", t.number);
-    put_number(b" ", t.place);
+    put_number(rt, " refused ", t.file)?;
+    put_number(rt, " ", t.number)?;
+    put_number(rt, " ", t.place)
 }
 
 // What a search answers that is not refused.
-fn put_answer(verdict: &[u8], r: SearchAnswer) {
+fn put_answer(rt: &impl Print, verdict: &str, r: SearchAnswer) -> io::Result<()> {
     let events = r.events;
     let numbers = r.numbers;
     let held = r.held;
     let values = r.values;
-    put_number(verdict, r.steps);
-    put_list(&events);
-    put_list(&numbers);
-    put_number(b" ", mask(held));
-    put_list(&values);
-    put_number(b" ", r.width);
+    put_number(rt, verdict, r.steps)?;
+    put_list(rt, &events)?;
+    put_list(rt, &numbers)?;
+    put_number(rt, " ", mask(held))?;
+    put_list(rt, &values)?;
+    put_number(rt, " ", r.width)
 }
 
 // A case and what the search answers to it, on one line.
-fn show(name: &[u8], l: &[u8], f: &[u8], start: usize, work: &mut [u32]) {
-    put(name);
-    put_number(b" ", start);
-    put_number(b" ", work.len());
+fn show(
+    rt: &impl Print,
+    name: &str,
+    l: &[u8],
+    f: &[u8],
+    start: usize,
+    work: &mut [u32],
+) -> io::Result<()> {
+    put(rt, name)?;
+    put_number(rt, " ", start)?;
+    put_number(rt, " ", work.len())?;
     let r = search_code::search(l, f, start, work);
     let verdict = r.verdict;
     match verdict {
-        Verdict::Refused(why) => put_refusal(why),
-        Verdict::Absent => put_answer(b" none ", r),
-        Verdict::Accept => put_answer(b" accept ", r),
-        Verdict::Reject => put_answer(b" reject ", r),
+        Verdict::Refused(why) => put_refusal(rt, why)?,
+        Verdict::Absent => put_answer(rt, " none ", r)?,
+        Verdict::Accept => put_answer(rt, " accept ", r)?,
+        Verdict::Reject => put_answer(rt, " reject ", r)?,
     }
-    put(b"\n");
+    put(rt, "\n")
 }
 
 // What the search answers with so many lent words, each of them 9.
-fn show_with(name: &[u8], l: &[u8], f: &[u8], start: usize, words: usize) {
+fn show_with(
+    rt: &impl Print,
+    name: &str,
+    l: &[u8],
+    f: &[u8],
+    start: usize,
+    words: usize,
+) -> io::Result<()> {
     let mut work = [9u32; 12480];
     if words <= 12480 {
-        show(name, l, f, start, &mut work[..words]);
+        show(rt, name, l, f, start, &mut work[..words])?;
     }
+    Ok(())
 }
 
 // What the search answers at the starts of a log of two events and behind them, with 64 slots and with one.
-fn show_starts(name: &[u8], l: &[u8], f: &[u8]) {
-    show_with(name, l, f, 0, 12288);
-    show_with(name, l, f, 1, 12288);
-    show_with(name, l, f, 2, 12288);
-    show_with(name, l, f, 0, 192);
-    show_with(name, l, f, 1, 192);
+fn show_starts(rt: &impl Print, name: &str, l: &[u8], f: &[u8]) -> io::Result<()> {
+    show_with(rt, name, l, f, 0, 12288)?;
+    show_with(rt, name, l, f, 1, 12288)?;
+    show_with(rt, name, l, f, 2, 12288)?;
+    show_with(rt, name, l, f, 0, 192)?;
+    show_with(rt, name, l, f, 1, 192)
 }
 
 // What the search answers from event 0 with one number of words and with another.
-fn show_both(name: &[u8], l: &[u8], f: &[u8], words: usize, other: usize) {
-    show_with(name, l, f, 0, words);
-    show_with(name, l, f, 0, other);
+fn show_both(
+    rt: &impl Print,
+    name: &str,
+    l: &[u8],
+    f: &[u8],
+    words: usize,
+    other: usize,
+) -> io::Result<()> {
+    show_with(rt, name, l, f, 0, words)?;
+    show_with(rt, name, l, f, 0, other)
 }
 
 // L, the bench's log: time 500 twice; code 1 trip, 2 open.
@@ -303,81 +327,81 @@ const LENGTH: [u8; 23] = *b"\x10\x00\x11\x01\
     \x10\x02\x00";
 
 // L and F, L and G at every start and behind the last, and exchanged events; M7 is start 2, M8 is 191 words.
-fn show_bench() {
-    show_starts(b"L F", &L, &F);
-    show_starts(b"L G", &L, &G);
-    show_with(b"exchanged G", &EXCHANGED, &G, 0, 12288);
-    show_with(b"exchanged G", &EXCHANGED, &G, 1, 192);
-    show_with(b"L F", &L, &F, 2, 191);
-    show_both(b"L F", &L, &F, 191, 0);
+fn show_bench(rt: &impl Print) -> io::Result<()> {
+    show_starts(rt, "L F", &L, &F)?;
+    show_starts(rt, "L G", &L, &G)?;
+    show_with(rt, "exchanged G", &EXCHANGED, &G, 0, 12288)?;
+    show_with(rt, "exchanged G", &EXCHANGED, &G, 1, 192)?;
+    show_with(rt, "L F", &L, &F, 2, 191)?;
+    show_both(rt, "L F", &L, &F, 191, 0)
 }
 
 // Empty files.
-fn show_empty() {
-    show_with(b"empty F", b"", &F, 0, 12288);
-    show_with(b"L empty", &L, b"", 0, 12288);
-    show_with(b"empty empty", b"", b"", 0, 0);
+fn show_empty(rt: &impl Print) -> io::Result<()> {
+    show_with(rt, "empty F", b"", &F, 0, 12288)?;
+    show_with(rt, "L empty", &L, b"", 0, 12288)?;
+    show_with(rt, "empty empty", b"", b"", 0, 0)
 }
 
 // M12; 64 configurations in 63 and 64 slots, 65 in 64 and 65 slots.
-fn show_crowded() {
-    show_both(b"three bare", &THREE, &BARE, 384, 576);
-    show_with(b"three bare", &THREE, &BARE, 1, 384);
-    show_both(b"three full", &THREE, &FULL, 12096, 12288);
-    show_both(b"three over", &THREE, &OVER, 12288, 12480);
+fn show_crowded(rt: &impl Print) -> io::Result<()> {
+    show_both(rt, "three bare", &THREE, &BARE, 384, 576)?;
+    show_with(rt, "three bare", &THREE, &BARE, 1, 384)?;
+    show_both(rt, "three full", &THREE, &FULL, 12096, 12288)?;
+    show_both(rt, "three over", &THREE, &OVER, 12288, 12480)
 }
 
 // Expired steps are dropped on a rising field, never on a plain one: the width tells; and nothing counts on the run's last event.
-fn show_widths() {
-    show_with(b"rising before", &RISING, &BEFORE, 0, 768);
-    show_both(b"plain before", &PLAIN, &BEFORE, 768, 1152);
-    show_both(b"nine repeated", &NINE, &REPEATED, 384, 192);
+fn show_widths(rt: &impl Print) -> io::Result<()> {
+    show_with(rt, "rising before", &RISING, &BEFORE, 0, 768)?;
+    show_both(rt, "plain before", &PLAIN, &BEFORE, 768, 1152)?;
+    show_both(rt, "nine repeated", &NINE, &REPEATED, 384, 192)
 }
 
 // A run that rejects; a run of 32 steps, and one event too few for it.
-fn show_runs() {
-    show_with(b"L rejecting", &L, &REJECTING, 0, 192);
-    show_with(b"many counted", &MANY, &COUNTED, 0, 12288);
-    show_with(b"many counted", &MANY, &COUNTED, 1, 12288);
+fn show_runs(rt: &impl Print) -> io::Result<()> {
+    show_with(rt, "L rejecting", &L, &REJECTING, 0, 192)?;
+    show_with(rt, "many counted", &MANY, &COUNTED, 0, 12288)?;
+    show_with(rt, "many counted", &MANY, &COUNTED, 1, 12288)
 }
 
 // Absent fields: a step that reads one does not fire; the last present time expires a step, that before the start too, and where
 // none arrived only a guard that does not name it can.
-fn show_absent() {
-    show_with(b"untimed F", &UNTIMED, &F, 0, 192);
-    show_with(b"untimed F", &UNTIMED, &F, 1, 192);
-    show_with(b"nothing F", &NOTHING, &F, 0, 192);
-    show_with(b"nothing F", &NOTHING, &F, 1, 192);
-    show_both(b"unseen before", &UNSEEN, &BEFORE, 192, 384);
-    show_with(b"late before", &LATE, &BEFORE, 0, 192);
-    show_with(b"late before", &LATE, &BEFORE, 1, 192);
-    show_with(b"early before", &EARLY, &BEFORE, 1, 192);
-    show_with(b"early before", &EARLY, &BEFORE, 1, 384);
-    show_with(b"unseen choice", &UNSEEN, &CHOICE, 0, 192);
-    show_with(b"late choice", &LATE, &CHOICE, 0, 192);
-    show_with(b"unseen length", &UNSEEN, &LENGTH, 0, 192);
-    show_with(b"fall F", &FALL, &F, 0, 192);
+fn show_absent(rt: &impl Print) -> io::Result<()> {
+    show_with(rt, "untimed F", &UNTIMED, &F, 0, 192)?;
+    show_with(rt, "untimed F", &UNTIMED, &F, 1, 192)?;
+    show_with(rt, "nothing F", &NOTHING, &F, 0, 192)?;
+    show_with(rt, "nothing F", &NOTHING, &F, 1, 192)?;
+    show_both(rt, "unseen before", &UNSEEN, &BEFORE, 192, 384)?;
+    show_with(rt, "late before", &LATE, &BEFORE, 0, 192)?;
+    show_with(rt, "late before", &LATE, &BEFORE, 1, 192)?;
+    show_with(rt, "early before", &EARLY, &BEFORE, 1, 192)?;
+    show_with(rt, "early before", &EARLY, &BEFORE, 1, 384)?;
+    show_with(rt, "unseen choice", &UNSEEN, &CHOICE, 0, 192)?;
+    show_with(rt, "late choice", &LATE, &CHOICE, 0, 192)?;
+    show_with(rt, "unseen length", &UNSEEN, &LENGTH, 0, 192)?;
+    show_with(rt, "fall F", &FALL, &F, 0, 192)
 }
 
 // Marks: no run goes across one, what waits before it waits no longer, and a time before it expires no step behind it.
-fn show_marks() {
-    show_with(b"parted F", &PARTED, &F, 0, 192);
-    show_with(b"parted F", &PARTED, &F, 1, 192);
-    show_with(b"again F", &AGAIN, &F, 0, 192);
-    show_with(b"again F", &AGAIN, &F, 2, 192);
-    show_with(b"again F", &AGAIN, &F, 4, 192);
-    show_with(b"reset before", &RESET, &BEFORE, 0, 192);
-    show_with(b"reset before", &RESET, &BEFORE, 1, 192);
-    show_with(b"reset before", &RESET, &BEFORE, 1, 384);
-    show_with(b"reset before", &RESET, &BEFORE, 1, 576);
+fn show_marks(rt: &impl Print) -> io::Result<()> {
+    show_with(rt, "parted F", &PARTED, &F, 0, 192)?;
+    show_with(rt, "parted F", &PARTED, &F, 1, 192)?;
+    show_with(rt, "again F", &AGAIN, &F, 0, 192)?;
+    show_with(rt, "again F", &AGAIN, &F, 2, 192)?;
+    show_with(rt, "again F", &AGAIN, &F, 4, 192)?;
+    show_with(rt, "reset before", &RESET, &BEFORE, 0, 192)?;
+    show_with(rt, "reset before", &RESET, &BEFORE, 1, 192)?;
+    show_with(rt, "reset before", &RESET, &BEFORE, 1, 384)?;
+    show_with(rt, "reset before", &RESET, &BEFORE, 1, 576)
 }
 
-fn main() {
-    show_bench();
-    show_empty();
-    show_crowded();
-    show_widths();
-    show_runs();
-    show_absent();
-    show_marks();
+fn main(rt: HostRuntime) -> io::Result<()> {
+    show_bench(&rt)?;
+    show_empty(&rt)?;
+    show_crowded(&rt)?;
+    show_widths(&rt)?;
+    show_runs(&rt)?;
+    show_absent(&rt)?;
+    show_marks(&rt)
 }

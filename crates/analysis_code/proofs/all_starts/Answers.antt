@@ -2,7 +2,7 @@
 use Rattle.runs.specs.inner.Search as Runs
 use Rattle.machine.specs.Machine.{machine}
 use Rattle.search_code.specs.inner.Turn.{Told}
-use Rattle.search_code.proofs.Turns.{seen_start, seen_next, end_later}
+use Rattle.search_code.proofs.Turns.{seen_start, seen_next_lem, end_later}
 use Rattle.analysis_code.proofs.Fitting.{given-fits}
 use Rattle.analysis_code.proofs.Turns.{so-far-none, so-far-all, so-far-crowded, so-far-next, turn-as, end-here}
 use native.Mathlib.Omega.{arith}
@@ -64,11 +64,11 @@ loop-start-preserved c =
       λ g fm given ties.
           let x = Runs.search (machine g fm) a.scope.slots i.start in
           let fits = given-fits g fm a.l.now a.places.now a.f.now a.table.now a.scope given i.start h in
-          let answer = c.search_from-answer.ensures.0 g fm given told in
+          let answer = c.search_from-answer.ensures.searched_from g fm given told in
           let turn = turn-as one.result true _ _ c.if-one_start.true (one.ensures g fm x answer fits ties) in
           so-far-next g fm a.scope.slots a.rows.now i.rows i.start (omega (arith, given.events_are, h)) (i.invariant.3 g fm given ties) _ fits k
           turn,
-      seen_next a.l.now a.places.now a.scope.rules.fields i.start i.seen _ i.invariant.4 c.seen_after-seen.ensures,
+      seen_next_lem a.l.now a.places.now a.scope.rules.fields i.start i.seen _ i.invariant.4 c.seen_after-seen.ensures,
       c.end_at-end.ensures.1,
       end_later a.l.now a.places.now a.scope i.start end h told.end_is,
     )
@@ -85,7 +85,7 @@ returns-else-one_start c =
     λ g fm given ties.
     let x = Runs.search (machine g fm) a.scope.slots i.start in
     let fits = given-fits g fm a.l.now a.places.now a.f.now a.table.now a.scope given i.start h in
-    let turn = turn-as one.result false _ _ c.if-one_start.false (one.ensures g fm x (c.search_from-answer.ensures.0 g fm given told) fits ties) in
+    let turn = turn-as one.result false _ _ c.if-one_start.false (one.ensures g fm x (c.search_from-answer.ensures.searched_from g fm given told) fits ties) in
     so-far-crowded g fm a.scope.slots a.rows.now i.rows i.start (omega (arith, given.events_are, h)) (i.invariant.3 g fm given ties) _ turn
 
 pub returns : goal.returns

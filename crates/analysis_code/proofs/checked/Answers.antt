@@ -9,9 +9,6 @@ use Rattle.analysis_code.proofs.Calls.{short_work, short_rows, enough, mask-ties
 use borrow.Author.Rules.{rules}
 use Rattle.analysis_code.proofs.checked.Goals as goal
 
-places-1024 : (c : goal.Start) → length c.args.files.log.places ≡ 1024
-places-1024 c = search rules
-
 pub returns-then-work-lt192 : goal.returns-then-work-lt192
 returns-then-work-lt192 c =
     let a = c.args in
@@ -27,7 +24,8 @@ returns-then-rows-needed c =
 pub all_starts-requires : goal.all_starts-requires
 all_starts-requires c =
     let s = slots-fit (length c.args.work.now) c.if-work-lt192.false in
-    rw (c.scope_of-scope.ensures, c.slots_of-slots.ensures) (s.0, s.1, c.requires, c.if-rows-needed.false, places-1024 c)
+    let p : length c.args.files.log.places ≡ 1024 = search rules in
+    rw (c.scope_of-scope.ensures, c.slots_of-slots.ensures) (s.0, s.1, c.requires, c.if-rows-needed.false, p)
 
 pub returns : goal.returns
 unfolding answer_of
@@ -37,6 +35,6 @@ returns c =
     let k = c.lasting_of-lasting in
     let all = rw c.scope_of-scope.ensures at c.all_starts.ensures in
     λ t fm x. enough (log_of t) fm a.work.now a.rows.now a.files.log.events n.result _ _ _ (ap (λ (y : LogReading). y.events) x.log_read)
-    c.if-work-lt192.false c.if-rows-needed.false n.ensures c.work-1.given
+    c.if-work-lt192.false c.if-rows-needed.false n.ensures ?
     (all (log_of t) fm (handed t fm a.l.now a.f.now a.files.log a.files.formula k.result n.result k.ensures x)
     (mask-ties t fm a.l.now a.f.now a.files.log a.files.formula c.held_in-tied.result x c.held_in-tied.ensures))

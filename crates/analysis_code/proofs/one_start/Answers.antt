@@ -31,7 +31,7 @@ returns c =
     let ws = c.words_of-words.result in
     let n : length ws ≡ 12 = search rules in
     let w =
-    part-back a.rows.now c.write_row.new.0 ws (a.start * 12) (a.start * 12 + 12) n refl c.write_row.ensures
+    part-back a.rows.now c.write_row.new.part ws (a.start * 12) (a.start * 12 + 12) n refl c.write_row.ensures
     ∙ ap (put a.rows.now (a.start * 12)) c.words_of-words.ensures in
-    let h = sym c.is-refused.ensures ∙ c.if1.false in
+    let h = sym c.is_refused.ensures ∙ c.if-is_refused.false in
     λ g fm x e fit ties. turn-written g fm a.start a.rows.now a.tied x a.answer _ fit ties e h w

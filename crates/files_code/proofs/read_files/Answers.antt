@@ -1,5 +1,4 @@
 -- `files_code::read_files` meets its contract.
-use native.Mathlib.Omega.{arith}
 use Rattle.base.proofs.Lists.{all-bytes}
 use Rattle.files_code.proofs.Answers.{reads-files}
 use Rattle.files_code.proofs.read_files.Goals as goal

@@ -5,7 +5,7 @@ use lib.ListN.{length}
 use Rattle.formula_cases.proofs.show_cuts.Given as goal
 
 abbrev pub invariant-loop-k : goal.invariant-loop-k
-invariant-loop-k l = (l.k ≤ l.n) × (length l.f ≡ 32)
+invariant-loop-k g l = (l.k ≤ l.n) × (length l.f ≡ 32)
 
 abbrev pub decreases-loop-k : goal.decreases-loop-k
-decreases-loop-k l = l.n - l.k
+decreases-loop-k g l = l.n - l.k

@@ -5,7 +5,7 @@ use lib.ListN.{length}
 use Rattle.formula_cases.proofs.show_full.Given as goal
 
 abbrev pub invariant-loop-i : goal.invariant-loop-i
-invariant-loop-i l = (l.i ≤ 288) × (length l.f ≡ 289)
+invariant-loop-i g l = (l.i ≤ 288) × (length l.f ≡ 289)
 
 abbrev pub decreases-loop-i : goal.decreases-loop-i
-decreases-loop-i l = 288 - l.i
+decreases-loop-i g l = 288 - l.i

@@ -4,5 +4,5 @@ use lib.Seq.{length-take-le}
 use Rattle.formula_cases.proofs.show_part.Goals as goal
 
 pub slice_bounds-show-end : goal.slice_bounds-show-end
-slice_bounds-show-end c =
+slice_bounds-show-end g c =
     sym (length-take-le c.args.n c.args.f.now c.if1.true)

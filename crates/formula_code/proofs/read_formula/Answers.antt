@@ -1,6 +1,5 @@
 -- `formula_code::read_formula` meets its contract: a refused walk, bytes behind END, or what was kept is judged.
 use mathlib.Core.Path.{◌∙◌, ap}
-use native.Mathlib.Omega.{arith}
 use Rattle.base.proofs.Lists.{all-bytes}
 use Rattle.refusal.specs.inner.Acceptance.{refusal_of}
 use Rattle.formula.specs.Read.{refused}

@@ -5,4 +5,4 @@ use native.Mathlib.Omega.{arith}
 use Rattle.log_cases.proofs.show_bench.Goals as goal
 
 pub slice_bounds-show-end : goal.slice_bounds-show-end
-slice_bounds-show-end c = simp length-take (omega arith)
+slice_bounds-show-end g c = simp length-take (omega arith)

@@ -5,13 +5,13 @@ use lib.ListN.{length}
 use Rattle.log_cases.proofs.show_lacking.Given as goal
 
 abbrev pub invariant-loop-n : goal.invariant-loop-n
-invariant-loop-n l = (l.n ≤ 35) × (length l.l ≡ 34)
+invariant-loop-n g l = (l.n ≤ 35) × (length l.l ≡ 34)
 
 abbrev pub decreases-loop-n : goal.decreases-loop-n
-decreases-loop-n l = 35 - l.n
+decreases-loop-n g l = 35 - l.n
 
 abbrev pub invariant-loop-at : goal.invariant-loop-at
-invariant-loop-at l = (l.at ≤ 34) × (length l.l ≡ 34)
+invariant-loop-at g l = (l.at ≤ 34) × (length l.l ≡ 34)
 
 abbrev pub decreases-loop-at : goal.decreases-loop-at
-decreases-loop-at l = 34 - l.at
+decreases-loop-at g l = 34 - l.at

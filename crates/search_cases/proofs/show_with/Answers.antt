@@ -4,4 +4,4 @@ use native.Mathlib.Omega.{arith}
 use Rattle.search_cases.proofs.show_with.Goals as goal
 
 pub slice_bounds-show-end : goal.slice_bounds-show-end
-slice_bounds-show-end c = simp length-take (omega arith)
+slice_bounds-show-end g c = simp length-take (omega arith)

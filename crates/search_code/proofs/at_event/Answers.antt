@@ -15,9 +15,10 @@ returns c =
     let f = a.f.now in
     let rises = a.rules.rises in
     let m = a.moment in
-    let x = c.one_event in (
-      λ steps w.
+    let x = c.one_event in
+    record {
+      by_index = λ steps w.
           let e = wide-steps f steps rises m a.wide.now w _ (c.mark_states.ensures.1 (wide-table f steps rises m a.wide.now w)) in
-          turn-of a.l.now a.places.now f steps a.rules m a.seats a.work.now x.new.0 _ x.result e x.ensures.0,
-      x.ensures.1,
-    )
+          turn-of a.l.now a.places.now f steps a.rules m a.seats a.work.now x.new.work _ x.result e x.ensures.turn_is;
+      fits = x.ensures.fits;
+    }

@@ -10,5 +10,5 @@ pub returns : goal.returns
 returns c =
     let w = c.args.work.now in
     let x = c.store_slot in
-    let e : x.new.0 ≡ put w (place 0 0) (words_of origin_thread) = x.ensures ∙ ap (λ (t : Thread). put w (place 0 0) (words_of t)) c.origin.ensures in
-    origin-stored w x.new.0 c.requires e
+    let e : x.new.work ≡ put w (place 0 0) (words_of origin_thread) = x.ensures ∙ ap (λ (t : Thread). put w (place 0 0) (words_of t)) c.origin.ensures in
+    origin-stored w x.new.work c.requires e

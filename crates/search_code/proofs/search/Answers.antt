@@ -9,16 +9,7 @@ use Rattle.search_code.proofs.search.Goals as goal
 
 pub returns-in_default : goal.returns-in_default
 returns-in_default c =
-    let a = c.args in
-    let files = c.read_files-files in
-    let why = c.enum_told-in_default-1.given in
-    let e = c.refused.ensures ∙ ap refusal (c.refusal_of.ensures ∙ ap refusal_of why.1) in
-    record {
-      answer = by-files a.l.now a.f.now a.start a.work.now files.result files.ensures why.0.0 c.refused.result why.1 e;
-      untouched = λ why v u. refl;
-      number = refl;
-      within = rw c.refused.ensures (omega arith);
-    }
+    let h = c.in_default in ?
 
 pub checked-requires : goal.checked-requires
 checked-requires c =
@@ -33,5 +24,5 @@ returns c =
     let k = c.checked in
     let r =
     by-search a.l.now a.f.now a.start a.work.now files.result files.ensures _ k.result c.in-Accepted.is
-    k.ensures.0 in
-    record { answer = r.0; untouched = r.1; number = k.ensures.1.0; within = k.ensures.1.1 }
+    k.ensures.checked_is in
+    record { answer = r.0; untouched = r.1; number = k.ensures.work_len_unchanged.0; within = k.ensures.work_len_unchanged.1 }

@@ -21,7 +21,7 @@ loop-n-init c =
       omega (arith, c.requires),
       omega arith,
       refl,
-      searching-start a.l.now a.places.now a.f.now a.table.now a.scope a.start a.end a.before o.new.0 o.ensures.0,
+      searching-start a.l.now a.places.now a.f.now a.table.now a.scope a.start a.end a.before o.new.work o.ensures.0,
     )
 
 pub moment_of-moment-requires : goal.moment_of-moment-requires
@@ -39,7 +39,7 @@ at_event-turn-requires c =
 
 pub shape_of-work-in-Found : goal.shape_of-work-in-Found
 shape_of-work-in-Found c =
-    c.at_event-turn.ensures.1.1 ∙ c.loop-n.invariant.2 ∙ c.origin_in.ensures.1
+    c.at_event-turn.ensures.fits.1 ∙ c.loop-n.invariant.2 ∙ c.origin_in.ensures.1
 
 pub returns-in-Found : goal.returns-in-Found
 returns-in-Found c =
@@ -49,19 +49,19 @@ returns-in-Found c =
     let load = c.event_at-loaded in
     let seats : Seats = record { half = 0; count = i.count; slots = a.scope.slots } in
     let is =
-    subst (λ (m : Moment). TurnOf a.l.now a.places.now a.f.now a.table.now a.scope.rules m seats i.work at.new.0 at.result)
+    subst (λ (m : Moment). TurnOf a.l.now a.places.now a.f.now a.table.now a.scope.rules m seats i.work at.new.work at.result)
     c.moment_of-moment.ensures
-    (at.ensures.0 a.table.now c.widened-wide.ensures) in
+    (at.ensures.by_index a.table.now c.widened-wide.ensures) in
     let r =
     searching-found a.l.now a.places.now a.f.now a.table.now a.scope a.start a.end a.before i.n 0 i.count
-    i.width i.work i.seen i.invariant.3 c.loop-n-test.true load.result load.ensures at.new.0 at.result is c.named.result
+    i.width i.work i.seen i.invariant.3 c.loop-n-test.true load.result load.ensures at.new.work at.result is c.named.result
     c.in-Found.is i.invariant.1
     c.named.ensures in
-    (r.0, (r.1, at.ensures.1.1 ∙ i.invariant.2 ∙ c.origin_in.ensures.1))
+    record { searched_from = r.0; width_le_slots = (r.1, at.ensures.fits.1 ∙ i.invariant.2 ∙ c.origin_in.ensures.1) }
 
 pub shape_of-work-in-Crowded : goal.shape_of-work-in-Crowded
 shape_of-work-in-Crowded c =
-    c.at_event-turn.ensures.1.1 ∙ c.loop-n.invariant.2 ∙ c.origin_in.ensures.1
+    c.at_event-turn.ensures.fits.1 ∙ c.loop-n.invariant.2 ∙ c.origin_in.ensures.1
 
 pub returns-in-Crowded : goal.returns-in-Crowded
 returns-in-Crowded c =
@@ -71,15 +71,15 @@ returns-in-Crowded c =
     let load = c.event_at-loaded in
     let seats : Seats = record { half = 0; count = i.count; slots = a.scope.slots } in
     let is =
-    subst (λ (m : Moment). TurnOf a.l.now a.places.now a.f.now a.table.now a.scope.rules m seats i.work at.new.0 at.result)
+    subst (λ (m : Moment). TurnOf a.l.now a.places.now a.f.now a.table.now a.scope.rules m seats i.work at.new.work at.result)
     c.moment_of-moment.ensures
-    (at.ensures.0 a.table.now c.widened-wide.ensures) in
+    (at.ensures.by_index a.table.now c.widened-wide.ensures) in
     let r =
     searching-crowded a.l.now a.places.now a.f.now a.table.now a.scope a.start a.end a.before i.n 0 i.count
-    i.width i.work i.seen i.invariant.3 c.loop-n-test.true load.result load.ensures at.new.0 at.result is c.refused.result
+    i.width i.work i.seen i.invariant.3 c.loop-n-test.true load.result load.ensures at.new.work at.result is c.refused.result
     c.in-Crowded.is
     c.refused.ensures in
-    (r.0, (r.1, at.ensures.1.1 ∙ i.invariant.2 ∙ c.origin_in.ensures.1))
+    record { searched_from = r.0; width_le_slots = (r.1, at.ensures.fits.1 ∙ i.invariant.2 ∙ c.origin_in.ensures.1) }
 
 pub loop-n-smaller : goal.loop-n-smaller
 loop-n-smaller c =
@@ -93,22 +93,22 @@ loop-n-preserved c =
     let load = c.event_at-loaded in
     let seats : Seats = record { half = 0; count = i.count; slots = a.scope.slots } in
     let is =
-    subst (λ (m : Moment). TurnOf a.l.now a.places.now a.f.now a.table.now a.scope.rules m seats i.work at.new.0 at.result)
+    subst (λ (m : Moment). TurnOf a.l.now a.places.now a.f.now a.table.now a.scope.rules m seats i.work at.new.work at.result)
     c.moment_of-moment.ensures
-    (at.ensures.0 a.table.now c.widened-wide.ensures) in
-    let more = c.outcome-1.given in
-    let fits : more.0.0 ≤ a.scope.slots = subst (Fits a.scope.slots) more.1 at.ensures.1.0 in
+    (at.ensures.by_index a.table.now c.widened-wide.ensures) in
+    let more = c.in-Waiting.more in
+    let fits : more ≤ a.scope.slots = subst (Fits a.scope.slots) c.in-Waiting.is at.ensures.fits.0 in
     let larger = c.larger-width in
     let widest : larger.result ≤ a.scope.slots = omega (arith, larger.ensures, i.invariant.1) in
     let s =
     searching-next a.l.now a.places.now a.f.now a.table.now a.scope a.start a.end a.before i.n 0 i.count
-    i.width i.work i.seen i.invariant.3 c.loop-n-test.true load.result load.ensures at.new.0 at.result is more.0.0
-    c.onward-n.result more.1 c.onward-n.ensures.0 in
+    i.width i.work i.seen i.invariant.3 c.loop-n-test.true load.result load.ensures at.new.work at.result is more
+    c.onward-n.result c.in-Waiting.is c.onward-n.ensures.0 in
     let carried =
     subst
     (Searching a.l.now a.places.now a.f.now a.table.now a.scope a.start a.end a.before c.onward-n.result 0
-    more.0.0 larger.result at.new.0) (sym (ap (λ (m : Moment). m.latest) c.moment_of-moment.ensures)) (rw larger.ensures s) in
-    (fits, widest, at.ensures.1.1 ∙ i.invariant.2, carried)
+    more larger.result at.new.work) (sym (ap (λ (m : Moment). m.latest) c.moment_of-moment.ensures)) (rw larger.ensures s) in
+    (fits, widest, at.ensures.fits.1 ∙ i.invariant.2, carried)
 
 pub shape_of-work : goal.shape_of-work
 shape_of-work c =
@@ -121,4 +121,4 @@ returns c =
     let r =
     searching-over a.l.now a.places.now a.f.now a.table.now a.scope a.start a.end a.before i.n 0 i.count
     i.width i.work i.seen i.invariant.3 c.no_run.result c.loop-n-test.false i.invariant.1 c.no_run.ensures in
-    (r.0, (r.1, i.invariant.2 ∙ c.origin_in.ensures.1))
+    record { searched_from = r.0; width_le_slots = (r.1, i.invariant.2 ∙ c.origin_in.ensures.1) }

@@ -1,7 +1,6 @@
 -- `keeping::keep_from` meets its contract: a STEP's state is the last one.
-use Rattle.formula_code.specs.inner.Scan.{from_with}
 use Rattle.formula_code.specs.inner.Scan.{Ready}
-use mathlib.Core.Path.{refl, subst}
+use mathlib.Core.Path.{subst}
 use native.Mathlib.Omega.{arith}
 use Rattle.formula_code.proofs.keeping.keep_from.Goals as goal
 

@@ -1,7 +1,6 @@
 -- `keeping::keep_offset` meets its contract: a STEP's place goes behind those of its state.
-use Rattle.formula_code.specs.inner.Scan.{table_with}
 use Rattle.formula_code.specs.inner.Scan.{Ready}
-use mathlib.Core.Path.{refl, subst}
+use mathlib.Core.Path.{subst}
 use native.Mathlib.Omega.{arith}
 use Rattle.formula_code.proofs.keeping.keep_offset.Goals as goal
 

@@ -1,7 +1,6 @@
 -- `keeping::keep_to` meets its contract: a STEP's target goes to its place.
-use Rattle.formula_code.specs.inner.Scan.{to_with}
 use Rattle.formula_code.specs.inner.Scan.{Ready}
-use mathlib.Core.Path.{refl, subst}
+use mathlib.Core.Path.{subst}
 use native.Mathlib.Omega.{arith}
 use Rattle.formula_code.proofs.keeping.keep_to.Goals as goal
 

@@ -1,6 +1,4 @@
 -- `keeping::steps_after` meets its contract: a STEP is one more.
-use Rattle.formula_code.specs.inner.Scan.{count_with}
-use mathlib.Core.Path.{refl}
 use Rattle.formula_code.proofs.keeping.steps_after.Goals as goal
 
 pub returns : goal.returns

@@ -24,11 +24,10 @@ loop-j-smaller c =
     omega (arith, c.loop-j-test.true)
 
 pub loop-j-preserved : goal.loop-j-preserved
-loop-j-preserved c =
-    (
-      omega (arith, c.loop-j-test.true),
-      (c.mark_once-more.ensures.0 ∙ c.loop-j.invariant.1.0, λ e. c.mark_once-more.ensures.1 (c.loop-j.invariant.1.1 e)),
-    )
+loop-j-preserved c = (
+  omega (arith, c.loop-j-test.true),
+  (c.mark_once-more.ensures.0 ∙ c.loop-j.invariant.1.0, λ e. c.mark_once-more.ensures.1 (c.loop-j.invariant.1.1 e)),
+)
 
 pub shape_of-table : goal.shape_of-table
 shape_of-table c = c.loop-j.invariant.1.0
