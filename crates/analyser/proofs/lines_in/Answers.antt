@@ -17,7 +17,7 @@ loop-n-preserved c = let i = c.loop-n in
     let rows = c.args.rows.now in
     let e : i.n * 12 + 12 - i.n * 12 ≡ 12 = omega arith in (
       omega arith,
-      c.add_line-at.auto.1.1.0 ∙ i.invariant.1,
+      c.add_line-at.auto.out ∙ i.invariant.1,
       one_more (line_in rows) i.n (ap (λ k. line i.n (take k (drop (i.n * 12) rows))) e) i.invariant.2 c.add_line-at.ensures,
     )
 

@@ -1,8 +1,7 @@
 -- `formula_cases::show_part` is safe: a part within the formula is shown.
-use mathlib.Core.Path.{sym}
-use lib.Seq.{length-take-le}
+use lib.ListN.{length-take}
+use native.Mathlib.Omega.{arith}
 use Rattle.formula_cases.proofs.show_part.Goals as goal
 
 pub slice_bounds-show-end : goal.slice_bounds-show-end
-slice_bounds-show-end g c =
-    sym (length-take-le c.args.n c.args.f.now c.if1.true)
+slice_bounds-show-end g c = simp length-take (omega arith)

@@ -9,7 +9,16 @@ use Rattle.search_code.proofs.search.Goals as goal
 
 pub returns-in_default : goal.returns-in_default
 returns-in_default c =
-    let h = c.in_default in ?
+    let a = c.args in
+    let files = c.read_files-files in
+    let why = c.in_default in
+    let e = c.refused.ensures ∙ ap refusal (c.refusal_of.ensures ∙ ap refusal_of why.is) in
+    record {
+      answer = by-files a.l.now a.f.now a.start a.work.now files.result files.ensures why.field-0 c.refused.result why.is e;
+      untouched = λ why v u. refl;
+      number = refl;
+      within = rw c.refused.ensures (omega arith);
+    }
 
 pub checked-requires : goal.checked-requires
 checked-requires c =
