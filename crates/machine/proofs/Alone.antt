@@ -15,7 +15,7 @@ use Rattle.runs.specs.inner.Moved.{moved, carried}
 use Rattle.runs.proofs.Stretch.{end-most, end_after, inside}
 use Rattle.runs.proofs.Moved.{search-moved}
 use Rattle.runs.proofs.Alike.{search-alike}
-use Rattle.machine.specs.Configuration.{Config, same}
+use Rattle.machine.specs.Configuration.{Config}
 use Rattle.machine.specs.Machine.{fire_by, fire_at, expired_by, expired_at, machine}
 
 -- event i's stretch as a log of its own

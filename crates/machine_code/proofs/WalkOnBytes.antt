@@ -18,7 +18,7 @@ use Rattle.formula.specs.Encode.{CLAUSE, operator_byte, list_byte, encode_clause
 use Rattle.formula.specs.Correct.{Exists}
 use Rattle.machine_code.specs.declared.Walked.{Walked}
 use Rattle.machine.specs.Configuration.{Config}
-use Rattle.machine.specs.Firing.{holds, value_of, hold, bind_all, passes}
+use Rattle.machine.specs.Firing.{holds, value_of, hold, bind_all}
 use Rattle.machine.specs.Expiry.{rises, missed, any_past_due}
 use Rattle.machine.specs.inner.Walk.{walk}
 use Rattle.machine_code.specs.inner.Bytes.{holds_by, missed_by, is_clause, width_of, tested, holding, bound, noted, met, clause_at, walk_from}

@@ -12,7 +12,7 @@ use Rattle.runs.specs.Machine.{Machine}
 use Rattle.runs.specs.Answer.{Answer, found, absent, crowded}
 use Rattle.runs.specs.inner.Search.{Thread, arrive, firing, endings, least, outcome}
 use Rattle.runs.specs.inner.Threads.{insert_within, chain, onward}
-use Rattle.runs.specs.inner.Settle.{lasts, stayers, settle, pursue}
+use Rattle.runs.specs.inner.Settle.{lasts, stayers, arrivals, movers, settle, pursue}
 use Rattle.runs.specs.inner.Aged.{unless, firing_but, arrivals_but, movers_but, settle_but}
 use Rattle.runs.proofs.Growth.{keep_append}
 use Rattle.runs.proofs.OneByOne.{within-append}
@@ -68,6 +68,34 @@ module _ (M : Machine) where
   pub stayers-more : (n : ℕ) (ths : List (Thread M)) (t : Thread M) → stayers M n (ths ++ (t ∷ [])) ≡ stayers M n ths ++ only (lasts M n t) t []
   unfolding stayers keep
   stayers-more n ths t = keep_append (lasts M n) ths (t ∷ [])
+
+  movers-append : (n : ℕ) (front back : List (Thread M)) → movers M n (front ++ back) ≡ movers M n front ++ movers M n back
+  unfolding movers
+  movers-append n front back = turn-append (arrivals M n) front back
+
+  -- one thread more: its arrivals follow
+  pub movers-more : (n : ℕ) (ths : List (Thread M)) (t : Thread M) → movers M n (ths ++ (t ∷ [])) ≡ movers M n ths ++ arrivals M n t
+  unfolding movers in_turn
+  movers-more n ths t = movers-append n ths (t ∷ []) ∙ ap (λ r. movers M n ths ++ r) (append-nil (arrivals M n t))
+
+  -- where the first threads alone have too many movers, so has the whole list
+  pub settle-over : (slots n : ℕ) (ths front back : List (Thread M)) → ths ≡ front ++ back → insert_within M slots [] (movers M n front) ≡ none
+      → settle M slots n ths ≡ none
+  unfolding settle
+  settle-over slots n ths front back q e = ap (λ o. chain M o (λ fresh. insert_within M slots (stayers M n ths) fresh)) all
+    where
+      all : insert_within M slots [] (movers M n ths) ≡ none
+      all =
+          ap (λ l. insert_within M slots [] (movers M n l)) q ∙ ap (insert_within M slots []) (movers-append n front back)
+          ∙ within-append M slots [] (movers M n front) (movers M n back) ∙ ap (λ o. chain M o (λ more. insert_within M slots more (movers M n back))) e
+
+  -- where the movers are distinct within the slots, they are inserted into the stayers
+  pub settle-by : (slots n : ℕ) (ths fresh : List (Thread M)) → insert_within M slots [] (movers M n ths) ≡ some fresh
+      → settle M slots n ths ≡ insert_within M slots (stayers M n ths) fresh
+  unfolding settle
+  settle-by slots n ths fresh e = ap (λ o. chain M o (λ fresh. insert_within M slots (stayers M n ths) fresh)) e
+
+  -- ---- the same without the moves that are left out
 
   movers_but-append : (out : Thread M → ℕ → Bool) (n : ℕ) (front back : List (Thread M))
       → movers_but M out n (front ++ back) ≡ movers_but M out n front ++ movers_but M out n back

@@ -3,7 +3,7 @@ use Prim.Native.Nat.{ℕ, suc, ◌+◌, ◌-◌, ◌<◌, ◌≤◌}
 use mathlib.Core.Path.{◌≡◌, refl, ap, ap₂, sym, ◌∙◌, subst}
 use mathlib.Core.Logic.{inl, inr}
 use mathlib.Core.Bool.{Bool, true, false, ◌&&◌}
-use mathlib.Core.List.{List, [], ◌∷◌, ◌++◌, map, append-nil, append_assoc}
+use mathlib.Core.List.{List, [], ◌∷◌, ◌++◌, map, append-nil}
 use mathlib.Core.Option.{Option, none, some}
 use native.Mathlib.Numerals.{add-one}
 use native.Mathlib.Omega.{arith}
@@ -15,13 +15,12 @@ use Rattle.base.specs.Lists.{All}
 use Rattle.base.proofs.Lists.{All-append}
 use Rattle.event_log.specs.Log.{Log}
 use Rattle.formula.specs.Formula.{Formula}
-use Rattle.runs.specs.Machine.{Machine}
 use Rattle.runs.specs.inner.Lists.{only, keep, in_turn}
 use Rattle.runs.specs.inner.Search as Runs
 use Rattle.runs.specs.inner.Threads.{insert_within, chain}
 use Rattle.runs.specs.inner.Settle.{lasts, stayers, arrivals, movers, settle}
 use Rattle.runs.proofs.OneByOne.{within-append}
-use Rattle.runs.proofs.Pursuit.{stayers-more}
+use Rattle.runs.proofs.Pursuit.{stayers-more, movers-more, settle-over, settle-by}
 use Rattle.machine.specs.Machine.{machine, fire_at}
 use Rattle.slots.specs.declared.Thread.{Thread}
 use Rattle.slots.specs.inner.Words.{thread_at, place, threads_from, list, KeptAt}
@@ -39,42 +38,6 @@ use Rattle.threads.proofs.Listed.{kept_at, thread-stays}
 use Rattle.threads.proofs.Tables.{fires-none, hopeful-lasting}
 use Rattle.threads.proofs.Choices.{quiet-choice}
 use Rattle.threads.proofs.Waiting.{grown-same, within_none, offers-done}
-
--- ---- a list of threads, and one more
-
-module _ {A B : Type 0} where
-  turn-append : (f : B → List A) (xs ys : List B) → in_turn f (xs ++ ys) ≡ in_turn f xs ++ in_turn f ys
-  unfolding in_turn
-  turn-append f [] ys = refl
-  turn-append f (x ∷ xs) ys = ap (λ r. f x ++ r) (turn-append f xs ys) ∙ sym (append_assoc (f x) (in_turn f xs) (in_turn f ys))
-
-module _ (M : Machine) where
-  movers-append : (n : ℕ) (front back : List (Runs.Thread M)) → movers M n (front ++ back) ≡ movers M n front ++ movers M n back
-  unfolding movers
-  movers-append n front back = turn-append (arrivals M n) front back
-
-  -- its arrivals follow
-  movers-more : (n : ℕ) (ths : List (Runs.Thread M)) (t : Runs.Thread M) → movers M n (ths ++ (t ∷ [])) ≡ movers M n ths ++ arrivals M n t
-  unfolding movers in_turn
-  movers-more n ths t = movers-append n ths (t ∷ []) ∙ ap (λ r. movers M n ths ++ r) (append-nil (arrivals M n t))
-
-  -- where the first threads alone have too many movers, so has the whole list
-  settle-over : (slots n : ℕ) (ths front back : List (Runs.Thread M)) → ths ≡ front ++ back → insert_within M slots [] (movers M n front) ≡ none
-      → settle M slots n ths ≡ none
-  unfolding settle
-  settle-over slots n ths front back q e = ap (λ o. chain M o (λ fresh. insert_within M slots (stayers M n ths) fresh)) all
-    where
-      all : insert_within M slots [] (movers M n ths) ≡ none
-      all =
-          ap (λ l. insert_within M slots [] (movers M n l)) q ∙ ap (insert_within M slots []) (movers-append n front back)
-          ∙ within-append M slots [] (movers M n front) (movers M n back)
-          ∙ ap (λ o. chain M o (λ more. insert_within M slots more (movers M n back))) e
-
-  -- where the movers are distinct within the slots, they are inserted into the stayers
-  settle-by : (slots n : ℕ) (ths fresh : List (Runs.Thread M)) → insert_within M slots [] (movers M n ths) ≡ some fresh
-      → settle M slots n ths ≡ insert_within M slots (stayers M n ths) fresh
-  unfolding settle
-  settle-by slots n ths fresh e = ap (λ o. chain M o (λ fresh. insert_within M slots (stayers M n ths) fresh)) e
 
 module _ (z : Seats) (before : List ℕ) where
   pub sifts-start : Sifts z before 0 (record { stayed = 0; moved = 0 }) before

@@ -11,7 +11,7 @@ use Rattle.analyser.proofs.answer.Goals as goal
 pub lines_in-requires : goal.lines_in-requires
 lines_in-requires c =
     let l = c.args.l.now in
-    let b = all-bytes l (λ i. omega (arith, c.shared_slice_known-1.given i)) in
+    let b = all-bytes l (λ i. omega (arith, c.type_inv.l i)) in
     (rw (ap (λ x. x.events) c.read_log-reading.ensures, events_are (read_log l)) (few-events l b), search rules, search rules)
 
 pub returns-in-Done : goal.returns-in-Done

@@ -35,6 +35,6 @@ returns c =
     let k = c.lasting_of-lasting in
     let all = rw c.scope_of-scope.ensures at c.all_starts.ensures in
     λ t fm x. enough (log_of t) fm a.work.now a.rows.now a.files.log.events n.result _ _ _ (ap (λ (y : LogReading). y.events) x.log_read)
-    c.if-work-lt192.false c.if-rows-needed.false n.ensures ?
+    c.if-work-lt192.false c.if-rows-needed.false n.ensures c.all_starts.auto.work
     (all (log_of t) fm (handed t fm a.l.now a.f.now a.files.log a.files.formula k.result n.result k.ensures x)
     (mask-ties t fm a.l.now a.f.now a.files.log a.files.formula c.held_in-tied.result x c.held_in-tied.ensures))

@@ -1,5 +1,5 @@
 -- `base::bits_of` meets its contract: after k turns the array holds the lowest k bits, and the number is halved k times.
-use Prim.Native.Nat.{◌-◌, ◌/◌, ◌%◌, ◌^◌}
+use Prim.Native.Nat.{◌/◌, ◌%◌, ◌^◌}
 use mathlib.Core.Path.{◌≡◌, refl, ap, ◌∙◌}
 use mathlib.Core.Bool.{false}
 use native.Mathlib.Omega.{arith}

@@ -2,7 +2,7 @@
 use lib.ListN.{drop}
 use Rattle.base.specs.Mask.{mask}
 use mathlib.Core.Path.{◌≡◌}
-use Prim.Native.Nat.{◌-◌, ◌≤◌}
+use Prim.Native.Nat.{◌≤◌}
 use Rattle.base.proofs.mask_of.Given as goal
 
 abbrev pub invariant-loop-v : goal.invariant-loop-v

@@ -1,5 +1,5 @@
 -- `closure::free_of` meets its contract: the variables stored so far.
-use Prim.Native.Nat.{◌<◌, ◌-◌}
+use Prim.Native.Nat.{◌<◌}
 use native.Mathlib.Omega.{arith}
 use Rattle.closure.specs.inner.Reach.{edges}
 use Rattle.closure.proofs.Rounds.{below_none, below_on, below_all}

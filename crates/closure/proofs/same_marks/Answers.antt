@@ -1,5 +1,5 @@
 -- `closure::same_marks` meets its contract: the states so far agree.
-use Prim.Native.Nat.{◌<◌, ◌-◌}
+use Prim.Native.Nat.{◌<◌}
 use mathlib.Core.Path.{◌≡◌, ap}
 use mathlib.Core.Bool.{false, true≢false, false≢true}
 use native.Mathlib.Omega.{arith}

@@ -4,7 +4,7 @@ use Rattle.closure.proofs.Rounds.{stored-none, stored_on}
 use Rattle.closure.specs.inner.Reach.{Stored}
 use lib.ListN.{get_or, length-set}
 use native.Mathlib.Omega.{arith}
-use Prim.Native.Nat.{◌<◌, ◌+◌, ◌*◌, ◌-◌}
+use Prim.Native.Nat.{◌<◌, ◌+◌, ◌*◌}
 use mathlib.Core.Path.{◌≡◌, subst, ◌∙◌}
 use borrow.Author.Rules.{rules}
 use Rattle.closure.proofs.store_marks.Goals as goal

@@ -1,5 +1,4 @@
 -- `expression_reader::takes_of` meets its contract: by the command byte, ranges by the numbers in them.
-use mathlib.Core.Path.{◌≡◌}
 use Rattle.expression_reader.proofs.Opcodes.{takes_two, takes-two', takes-list, takes-none-below, takes-none-above}
 use native.Mathlib.Omega.{arith}
 use Rattle.formula.specs.Read.{expr_opcode}

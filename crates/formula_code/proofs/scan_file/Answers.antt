@@ -1,5 +1,5 @@
 -- `formula_code::scan_file` meets its contract: the loop keeps what was read, with enough fuel for the rest.
-use Prim.Native.Nat.{◌≤◌, ◌-◌}
+use Prim.Native.Nat.{◌≤◌}
 use mathlib.Core.Path.{sym, subst}
 use native.Mathlib.Omega.{arith}
 use lib.ListN.{length, length-drop}

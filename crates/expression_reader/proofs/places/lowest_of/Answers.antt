@@ -1,5 +1,4 @@
 -- `places::lowest_of` meets its contract: the lowest place of the keys from one on.
-use Prim.Native.Nat.{◌-◌}
 use native.Mathlib.Omega.{arith}
 use Rattle.expression_reader.specs.inner.Places.{nowhere, picked, lowest_of}
 use Rattle.expression_reader.proofs.LowestPlace.{lowest-none, lowest-on, lowest-all}

@@ -1,6 +1,5 @@
 -- `clauses::holds` meets its contract: by the operator's byte.
 use Rattle.machine_code.specs.inner.Bytes.{holds_by}
-use borrow.Author.Tests.{ne_eqb}
 use native.Mathlib.Omega.{arith}
 use Rattle.std.proofs.lemmas.Grind.{common_steps}
 use Rattle.machine_code.proofs.clauses.holds.Goals as goal

@@ -1,6 +1,5 @@
 -- `clauses::missed` meets its contract: by the operator's byte.
 use Rattle.machine_code.specs.inner.Bytes.{missed_by}
-use borrow.Author.Tests.{ne_eqb}
 use borrow.Author.Rules.{rules}
 use Rattle.machine_code.proofs.clauses.missed.Goals as goal
 

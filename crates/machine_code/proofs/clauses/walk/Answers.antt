@@ -3,7 +3,6 @@ use Rattle.machine_code.proofs.ClausesOnBytes.{clause-inside, walking_start, wal
 use Rattle.event_log.specs.Event.{together}
 use mathlib.Core.Path.{◌∙◌, sym}
 use native.Mathlib.Omega.{arith}
-use Prim.Native.Nat.{◌-◌}
 use Rattle.machine_code.proofs.clauses.walk.Goals as goal
 
 pub begin-w-requires : goal.begin-w-requires

@@ -1,6 +1,5 @@
 -- `gaining::gain_all` meets its contract: what is left of the clauses gives the whole.
 use Rattle.event_log.specs.Event.{together}
-use Prim.Native.Nat.{◌-◌}
 use mathlib.Core.Path.{◌≡◌, sym, ap, ◌∙◌}
 use native.Mathlib.Omega.{arith}
 use lib.ListN.{get_or}

@@ -1,7 +1,6 @@
 -- `marks::barred` meets its contract: a TEST that is false keeps every walk from passing.
 use Rattle.event_log.specs.Event.{together}
 use mathlib.Core.Path.{refl, ◌∙◌, sym}
-use Prim.Native.Nat.{◌-◌}
 use native.Mathlib.Omega.{arith}
 use Rattle.machine_code.specs.inner.Marks.{begins}
 use Rattle.machine_code.proofs.EventAlone.{width-most, reached, reaches-on, silent-here}

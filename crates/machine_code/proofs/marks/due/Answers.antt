@@ -2,7 +2,6 @@
 use Rattle.event_log.specs.Event.{together}
 use mathlib.Core.Path.{◌∙◌, sym}
 use mathlib.Core.Bool.{false≢true}
-use Prim.Native.Nat.{◌-◌}
 use native.Mathlib.Omega.{arith}
 use Rattle.machine_code.proofs.EventAlone.{width-most, reached, reaches-on, late-here}
 use Rattle.machine_code.proofs.marks.due.Goals as goal

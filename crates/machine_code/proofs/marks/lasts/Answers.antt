@@ -1,7 +1,6 @@
 -- `marks::lasts` meets its contract: no clause makes a walk past due, and no guard stands behind them.
 use mathlib.Core.Path.{◌∙◌, sym}
 use mathlib.Core.Bool.{false≢true}
-use Prim.Native.Nat.{◌-◌}
 use native.Mathlib.Omega.{arith}
 use Rattle.machine_code.proofs.EventAlone.{width-most}
 use Rattle.machine_code.proofs.BytesAlone.{lasting-start, lasting-on, lasting-end, wide-inside}

@@ -3,9 +3,7 @@ use Rattle.machine_code.proofs.StepsByNumber.{alive-none, alive-here, expires-ab
 use Rattle.machine_code.specs.inner.Bytes.{expires_at, alive_below}
 use Rattle.event_log.specs.Arrays.{in_latest}
 use mathlib.Core.Path.{◌≡◌, refl, ◌∙◌, sym, ap}
-use mathlib.Core.Bool.{false}
 use native.Mathlib.Omega.{arith}
-use Prim.Native.Nat.{◌-◌}
 use Rattle.machine_code.proofs.steps.hopeful.Goals as goal
 
 pub loop-next-init : goal.loop-next-init

@@ -9,7 +9,6 @@ use mathlib.Core.Path.{◌∙◌, sym, ap}
 use mathlib.Core.Bool.{true, false}
 use lib.ListN.{replicate}
 use native.Mathlib.Omega.{arith}
-use Prim.Native.Nat.{◌-◌}
 use Rattle.machine_code.proofs.steps.lowest.Goals as goal
 
 pub steps-init : goal.steps-init
