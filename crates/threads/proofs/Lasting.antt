@@ -1,5 +1,5 @@
 -- States some step of which never expires, marked step by step.
-use Prim.Native.Nat.{ℕ, ◌+◌, ◌*◌, ◌/◌, ◌%◌, ◌<◌, ◌≤◌}
+use Prim.Native.Nat.{ℕ, ◌+◌, ◌*◌, ◌/◌, ◌%◌, ◌<◌}
 use mathlib.Core.Path.{◌≡◌, refl, sym, ap, ◌∙◌, subst}
 use mathlib.Core.Logic.{◌⊎◌, inl, inr}
 use mathlib.Core.Bool.{Bool, true, false}
@@ -9,7 +9,7 @@ use lib.ListN.{length, get_or, set}
 use lib.Seq.{get_or-set_other}
 use lib.Dec.{eqb}
 use borrow.Author.Tests.{ne_eqb, lt-ltb, eqb-true, eqb-false}
-use Rattle.machine_code.specs.inner.Bytes.{is_step, offset_of}
+use Rattle.machine_code.specs.inner.Bytes.{is_step}
 use Rattle.machine_code.proofs.StepsByNumber.{offset-in}
 use Rattle.threads.specs.inner.Setting.{LastingStep, LastingState, LastingIs, MarkLastingIs}
 

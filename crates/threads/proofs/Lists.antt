@@ -17,7 +17,7 @@ use Rattle.formula.proofs.Places.{table-length}
 use Rattle.runs.specs.Run.{Entry}
 use Rattle.machine.specs.Configuration.{list_of}
 use Rattle.machine.specs.Guard.{among}
-use Rattle.machine.specs.inner.Along.{first, gathered, tallies, IsFresh}
+use Rattle.machine.specs.inner.Along.{first, gathered, IsFresh}
 use Rattle.machine.proofs.Along.{gathered-4, gathered-short}
 use Rattle.guard_code.proofs.Tallies.{length_at}
 use Rattle.machine_code.proofs.FiringOnBytes.{Carries}

@@ -1,8 +1,6 @@
 -- `lists::fresh_of` meets its contract: the marks before the i-th are told.
 use mathlib.Core.Path.{◌∙◌}
-use Prim.Native.Nat.{◌-◌}
 use native.Mathlib.Omega.{arith}
-use mathlib.Core.Bool.{false}
 use lib.ListN.{length-set}
 use Rattle.lists.proofs.Steps.{fresh-next}
 use Rattle.lists.proofs.fresh_of.Goals as goal

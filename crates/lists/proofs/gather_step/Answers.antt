@@ -1,6 +1,6 @@
 -- `lists::gather_step` meets its contract: what is left of the clauses gives the whole.
 use mathlib.Core.Path.{◌≡◌, sym, ap, ◌∙◌, subst}
-use Prim.Native.Nat.{◌+◌, ◌-◌}
+use Prim.Native.Nat.{◌+◌}
 use lib.ListN.{get_or}
 use native.Mathlib.Omega.{arith}
 use Rattle.machine_code.specs.inner.Bytes.{width_of}

@@ -1,6 +1,6 @@
 -- `lists::lists_of` meets its contract: what is left of the trail gives the whole.
 use mathlib.Core.Path.{◌≡◌, refl, sym, ap, ◌∙◌}
-use Prim.Native.Nat.{◌-◌, ◌<◌, ◌/◌, ◌%◌, min}
+use Prim.Native.Nat.{◌<◌, ◌/◌, ◌%◌, min}
 use native.Mathlib.Omega.{arith}
 use lib.ListN.{length, get_or, take}
 use lib.Seq.{length-take-le, get_or-take}

@@ -6,7 +6,6 @@ use native.Mathlib.Omega.{arith}
 use lib.ListN.{length, get_or, length-map}
 use mathlib.Core.List.{map}
 use mathlib.Core.Path.{◌≡◌, refl, ap, sym, ◌∙◌}
-use Prim.Native.Nat.{◌-◌}
 use Rattle.slots.proofs.compared.Goals as goal
 
 pub loop-i-init : goal.loop-i-init

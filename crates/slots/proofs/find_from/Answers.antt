@@ -7,7 +7,7 @@ use Rattle.slots.specs.declared.Thread.{Thread}
 use native.Mathlib.Omega.{arith}
 use mathlib.Core.Bool.{false}
 use mathlib.Core.Path.{◌≡◌, refl, ap, sym, subst, ◌∙◌}
-use Prim.Native.Nat.{ℕ, ◌+◌, ◌-◌}
+use Prim.Native.Nat.{ℕ, ◌+◌}
 use Rattle.slots.proofs.find_from.Goals as goal
 
 pub loop-i-init : goal.loop-i-init

@@ -5,7 +5,6 @@ use Rattle.base.specs.Mask.{bit}
 use Rattle.slots.proofs.Copying.{copied_more, copied_all}
 use native.Mathlib.Omega.{arith}
 use mathlib.Core.Path.{◌≡◌, refl, ap, ◌∙◌}
-use Prim.Native.Nat.{◌-◌}
 use borrow.Author.Rules.{rules}
 use Rattle.slots.proofs.flag_words.Goals as goal
 

@@ -5,7 +5,6 @@ use Rattle.slots.specs.inner.Words.{is_set}
 use Rattle.slots.proofs.Copying.{copied_more, copied_all}
 use native.Mathlib.Omega.{arith}
 use mathlib.Core.Path.{refl}
-use Prim.Native.Nat.{◌-◌}
 use Rattle.slots.proofs.flags_of.Goals as goal
 
 pub loop-i-init : goal.loop-i-init

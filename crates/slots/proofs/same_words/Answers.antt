@@ -4,7 +4,6 @@ use lib.Dec.{eqb}
 use Rattle.base.proofs.Same.{agreed-next, agreed-not, agreed-end}
 use native.Mathlib.Omega.{arith}
 use mathlib.Core.Path.{refl}
-use Prim.Native.Nat.{◌-◌}
 use Rattle.slots.proofs.same_words.Goals as goal
 
 pub loop-i-init : goal.loop-i-init

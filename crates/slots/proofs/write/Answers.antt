@@ -4,7 +4,7 @@ use lib.Seq.{paste-zero}
 use native.Mathlib.Omega.{arith}
 use lib.ListN.{get_or, length-set}
 use mathlib.Core.Path.{refl, ◌∙◌}
-use Prim.Native.Nat.{◌+◌, ◌-◌}
+use Prim.Native.Nat.{◌+◌}
 use Rattle.slots.proofs.write.Goals as goal
 
 pub loop-i-init : goal.loop-i-init

@@ -1,7 +1,6 @@
 -- In a committed state the lowest step that fires; else every step.
 use mathlib.Core.Path.{sym, ◌∙◌, subst}
 use native.Mathlib.Omega.{arith}
-use borrow.Author.Rules.{rules}
 use Rattle.threads.specs.inner.Setting.{conf}
 use Rattle.threads.specs.inner.Calls.{Lowest}
 use Rattle.threads.proofs.Choices.{ordinary-choice, quiet-choice, lowest-choice}

@@ -1,9 +1,7 @@
 -- The least over the threads that wait: what those left make of the best so far is the whole.
-use Prim.Native.Nat.{◌-◌}
 use mathlib.Core.Path.{refl}
 use mathlib.Core.Bool.{false≢true}
 use native.Mathlib.Omega.{arith}
-use borrow.Author.Tests.{not-true}
 use Rattle.runs.specs.inner.Search as Runs
 use Rattle.slots.specs.inner.Words.{thread_at, place}
 use Rattle.threads.proofs.Endings.{improved-nothing, ending-next, ending-done}

@@ -1,7 +1,6 @@
 -- The least over a thread's moves: what the steps left make of the best so far is the whole.
 use Prim.Native.Nat.{◌-◌}
 use mathlib.Core.Path.{◌≡◌}
-use borrow.Author.Rules.{rules}
 use Rattle.event_log.specs.Log.{Log}
 use Rattle.formula.specs.Formula.{Formula}
 use Rattle.runs.specs.inner.Lists.{keep}

@@ -1,9 +1,8 @@
 -- A thread that has begun, in a state that lasts and that the event lets no step of fire, idles.
 use mathlib.Core.Path.{◌≡◌, ap, sym, ◌∙◌}
-use mathlib.Core.Bool.{true, false, false≢true}
+use mathlib.Core.Bool.{false, false≢true}
 use native.Mathlib.Omega.{arith}
 use lib.ListN.{get_or}
-use borrow.Author.Rules.{rules}
 use Rattle.machine_code.specs.inner.Bytes.{offset_of}
 use Rattle.slots.specs.inner.Words.{thread_at, place}
 use Rattle.slots.proofs.Slots.{state-word, steps-word}

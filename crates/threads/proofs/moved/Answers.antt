@@ -1,5 +1,4 @@
 -- A step that fires is added to the trail.
-use borrow.Author.Rules.{rules}
 use Rattle.threads.proofs.Steps.{moved-fires, moved-silent, moved-long}
 use Rattle.threads.proofs.moved.Goals as goal
 

@@ -1,6 +1,5 @@
 -- A thread that has not ended, in at most 31 steps, waits where some step is not expired.
 use mathlib.Core.Path.{sym, ◌∙◌}
-use borrow.Author.Rules.{rules}
 use Rattle.threads.specs.inner.Event.{waiting_in}
 use Rattle.threads.proofs.Waiting.{grown-same, within_none, within-as, offered-final, offered-long, offered-open}
 use Rattle.threads.proofs.Words.{final-word}

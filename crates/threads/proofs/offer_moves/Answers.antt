@@ -3,8 +3,6 @@ use Prim.Native.Nat.{ℕ, ◌-◌, ◌+◌}
 use mathlib.Core.List.{List}
 use mathlib.Core.Path.{refl, ◌∙◌}
 use native.Mathlib.Omega.{arith}
-use borrow.Author.Tests.{not-true}
-use borrow.Author.Rules.{rules}
 use Rattle.runs.specs.inner.Threads.{insert_within}
 use Rattle.runs.specs.inner.Search as Runs
 use Rattle.machine.specs.Machine.{machine}

@@ -1,6 +1,5 @@
 -- The moves one by one: what is left to insert gives the whole, and the words of the other half stay.
 use Prim.Native.Nat.{◌-◌, ◌≤◌}
-use borrow.Author.Rules.{rules}
 use Rattle.event_log.specs.Log.{Log}
 use Rattle.formula.specs.Formula.{Formula}
 use Rattle.runs.specs.inner.Threads.{insert_within}

@@ -1,5 +1,4 @@
 -- The threads one by one.
-use Prim.Native.Nat.{◌-◌}
 use mathlib.Core.Path.{◌∙◌, ap, sym}
 use mathlib.Core.Logic.{inl}
 use mathlib.Core.List.{[]}

@@ -3,7 +3,6 @@ use Prim.Native.Nat.{◌≤◌}
 use mathlib.Core.Path.{refl, ◌∙◌, sym}
 use mathlib.Core.Logic.{inl, inr}
 use native.Mathlib.Omega.{arith}
-use borrow.Author.Rules.{rules}
 use Rattle.threads.proofs.Sifting.{sifts-next, sifting-next, sifting-stopped, idle-sifts, idle-sifting}
 use Rattle.threads.proofs.Listed.{kept_at, thread-stays, ends-none}
 use Rattle.threads.proofs.sift_one.Goals as goal

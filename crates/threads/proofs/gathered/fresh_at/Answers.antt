@@ -4,7 +4,6 @@ use mathlib.Core.Path.{ap, ◌∙◌}
 use mathlib.Core.List.{List}
 use lib.ListN.{get_or}
 use Rattle.threads.proofs.Lists.{none-gathered}
-use borrow.Author.Rules.{rules}
 use Rattle.threads.proofs.gathered.fresh_at.Goals as goal
 
 pub returns-then-is_empty : goal.returns-then-is_empty

@@ -1,5 +1,4 @@
 -- `gathered::is_empty` meets its contract: the lengths before the v-th are 0.
-use Prim.Native.Nat.{◌-◌}
 use native.Mathlib.Omega.{arith}
 use mathlib.Core.Bool.{false≢true}
 use Rattle.threads.proofs.Lists.{empty-next}

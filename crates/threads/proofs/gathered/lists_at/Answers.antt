@@ -9,7 +9,6 @@ use Rattle.machine.specs.inner.Along.{gathered}
 use Rattle.slots.specs.inner.Threads.{trail_of}
 use Rattle.lists.specs.inner.Words.{Holds, read_back}
 use Rattle.threads.proofs.Lists.{back}
-use borrow.Author.Rules.{rules}
 use Rattle.threads.proofs.gathered.lists_at.Goals as goal
 
 pub returns-then-table-lt256 : goal.returns-then-table-lt256

@@ -1,6 +1,4 @@
 -- `insertion::find` meets its contract: no thread before the j-th stands for b's configuration, and the j-th has its words.
-use Prim.Native.Nat.{◌-◌}
-use mathlib.Core.Bool.{true, false}
 use mathlib.Core.Path.{◌∙◌}
 use native.Mathlib.Omega.{arith}
 use Rattle.slots.proofs.ByPlace.{position-is}

@@ -1,5 +1,4 @@
 -- `threads::can_end` meets its contract, step by step.
-use Prim.Native.Nat.{◌-◌}
 use mathlib.Core.Bool.{false, true≢false}
 use native.Mathlib.Omega.{arith}
 use Rattle.event_log.specs.Event.{together}

@@ -7,7 +7,6 @@ use lib.ListN.{length, get_or}
 use lib.Dec.{leb}
 use Rattle.machine_code.specs.inner.Bytes.{offset_of}
 use Rattle.threads.proofs.Targets.{target-inside, target-final}
-use borrow.Author.Rules.{rules}
 use Rattle.threads.proofs.step.ends_by.Goals as goal
 
 pub returns-then-at-f : goal.returns-then-at-f

@@ -11,7 +11,6 @@ use Rattle.threads.proofs.Charts.{event-values}
 use mathlib.Core.Option.{Option}
 use mathlib.Core.Bool.{false}
 use mathlib.Core.Path.{refl, ap, sym, subst, ◌∙◌}
-use borrow.Author.Rules.{rules}
 use Rattle.threads.proofs.step.fires_at.Goals as goal
 
 pub returns-then-at-eq0 : goal.returns-then-at-eq0

@@ -1,10 +1,7 @@
 -- `threads::first_taken` meets its contract: every step before `next` is passed over.
-use Prim.Native.Nat.{◌-◌}
 use mathlib.Core.Path.{◌≡◌, refl, sym, subst, ◌∙◌}
 use mathlib.Core.Bool.{true}
 use native.Mathlib.Omega.{arith}
-use borrow.Author.Tests.{not-true, not-false}
-use borrow.Author.Rules.{rules}
 use Rattle.event_log.specs.Arrays.{in_event}
 use Rattle.formula.specs.Lookup.{step_table}
 use Rattle.machine_code.specs.inner.Bytes.{is_step}

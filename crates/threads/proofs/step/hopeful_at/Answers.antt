@@ -7,7 +7,6 @@ use mathlib.Core.Path.{refl, ap, sym, ◌∙◌}
 use Rattle.formula.specs.Lookup.{step_table}
 use Rattle.threads.proofs.Charts.{latest-values}
 use Rattle.threads.proofs.Tables.{hopeful-here, hopeful-lasting}
-use borrow.Author.Rules.{rules}
 use Rattle.threads.proofs.step.hopeful_at.Goals as goal
 
 pub returns-then-table-lt128 : goal.returns-then-table-lt128

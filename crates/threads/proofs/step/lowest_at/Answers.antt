@@ -10,7 +10,6 @@ use Rattle.machine_code.specs.inner.Bytes.{fires_at, lowest_of}
 use Rattle.machine_code.proofs.SameMachine.{lowest-means}
 use Rattle.threads.proofs.Choices.{lowest-found}
 use Rattle.threads.proofs.Tables.{lowest-here}
-use borrow.Author.Rules.{rules}
 use Rattle.threads.proofs.step.lowest_at.Goals as goal
 
 pub overflow_cast-result : goal.overflow_cast-result

@@ -6,7 +6,6 @@ use native.Mathlib.Omega.{arith}
 use lib.Dec.{leb}
 use lib.ListN.{length, get_or}
 use borrow.Author.Tests.{not-false}
-use borrow.Author.Rules.{rules}
 use Rattle.runs.proofs.Least.{some≢none}
 use Rattle.machine.specs.Machine.{final}
 use Rattle.machine_code.specs.inner.Bytes.{offset_of, is_step, fired}

@@ -1,5 +1,4 @@
 -- `table::is_quiet` meets its contract: none of the first k steps is there.
-use Prim.Native.Nat.{◌-◌}
 use mathlib.Core.Path.{sym, ◌∙◌}
 use mathlib.Core.Bool.{false≢true}
 use native.Mathlib.Omega.{arith}

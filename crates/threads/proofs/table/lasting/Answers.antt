@@ -1,5 +1,4 @@
 -- `table::lasting` meets its contract: after k turns every marked state has a step that never expires.
-use Prim.Native.Nat.{◌-◌}
 use mathlib.Core.Path.{sym, ◌∙◌}
 use mathlib.Core.Bool.{false, false≢true}
 use native.Mathlib.Omega.{arith}

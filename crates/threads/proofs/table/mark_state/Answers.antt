@@ -1,6 +1,5 @@
 -- `table::mark_state` meets its contract: each turn leaves it the event's table.
 use native.Mathlib.Omega.{arith}
-use Prim.Native.Nat.{◌-◌}
 use mathlib.Core.Path.{refl, ◌∙◌}
 use Rattle.threads.proofs.table.mark_state.Goals as goal
 

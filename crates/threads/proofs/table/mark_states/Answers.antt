@@ -1,6 +1,5 @@
 -- `threads::mark_states` meets its contract: each turn leaves it the event's table.
 use native.Mathlib.Omega.{arith}
-use Prim.Native.Nat.{◌-◌}
 use mathlib.Core.Path.{refl, ◌∙◌}
 use Rattle.threads.proofs.table.mark_states.Goals as goal
 

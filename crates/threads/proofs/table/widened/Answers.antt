@@ -2,7 +2,6 @@
 use Rattle.threads.proofs.Marking.{copied_next}
 use lib.ListN.{get_or}
 use mathlib.Core.Path.{◌≡◌, refl, subst}
-use Prim.Native.Nat.{◌-◌}
 use native.Mathlib.Omega.{arith}
 use Rattle.threads.proofs.table.widened.Goals as goal
 
