@@ -13,7 +13,6 @@ use Rattle.base.proofs.Lists.{set-pad, get_d-pad}
 use Rattle.formula.specs.Formula.{State, StateKind, ordinary, committed, accept, reject}
 use Rattle.formula.specs.Encode.{kind_byte}
 use Rattle.runs.specs.Run.{Entry}
-use Rattle.runs.specs.Order.{events, numbers}
 use Rattle.machine.specs.Machine.{kind_is, is_accept}
 use Rattle.slots.specs.declared.Thread.{Thread}
 use Rattle.slots.specs.inner.Threads.{trail_of, entry_of}

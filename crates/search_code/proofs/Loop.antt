@@ -26,7 +26,7 @@ use Rattle.runs.specs.Machine.{Machine}
 use Rattle.runs.specs.inner.Search.{endings, least, least_from, end_from, end_of, origin, search}
 use Rattle.runs.specs.Answer.{found, absent}
 use Rattle.runs.specs.inner.Lists.{keep, in_turn}
-use Rattle.runs.specs.inner.Threads.{insert_within, chain}
+use Rattle.runs.specs.inner.Threads.{insert_within}
 use Rattle.runs.specs.inner.Settle.{stayers, movers, settle, pursue, swift}
 use Rattle.runs.specs.Order.{events, numbers}
 use Rattle.runs.proofs.Pursuit.{ahead, event-over, event-found, event-crowded, event-next}

@@ -1,5 +1,4 @@
 -- `analyser::row_in` meets its contract: after i turns the first i words are copied.
-use Prim.Native.Nat.{◌-◌}
 use mathlib.Core.Path.{refl, sym, ◌∙◌}
 use lib.ListN.{length-set}
 use native.Mathlib.Omega.{arith}

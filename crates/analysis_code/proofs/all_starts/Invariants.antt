@@ -7,7 +7,6 @@ use Rattle.analysis_code.specs.inner.Starts.{Ties}
 use lib.ListN.{length}
 use mathlib.Core.Path.{◌≡◌}
 use Prim.Native.Nat.{◌-◌, ◌≤◌, ◌<◌}
-use borrow.Author.Rules.{rules}
 use Rattle.analysis_code.proofs.all_starts.Given as goal
 
 abbrev pub invariant-loop-start : goal.invariant-loop-start

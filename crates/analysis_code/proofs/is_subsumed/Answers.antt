@@ -4,7 +4,6 @@ use Rattle.analysis_code.specs.inner.Starts.{named_of, variables, runs_in}
 use Rattle.analysis.specs.Rows.{subsumed}
 use native.Mathlib.Omega.{arith}
 use lib.ListN.{take, drop}
-use mathlib.Core.Bool.{false}
 use mathlib.Core.Path.{◌≡◌, refl, ap, sym, ◌∙◌}
 use Prim.Native.Nat.{◌+◌, ◌-◌, ◌*◌}
 use Rattle.analysis_code.proofs.is_subsumed.Goals as goal

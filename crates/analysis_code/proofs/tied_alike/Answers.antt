@@ -4,7 +4,6 @@ use Rattle.analysis_code.specs.inner.Starts.{named_of}
 use native.Mathlib.Omega.{arith}
 use lib.ListN.{length}
 use mathlib.Core.Path.{◌≡◌, refl, sym, ◌∙◌}
-use Prim.Native.Nat.{◌-◌}
 use borrow.Author.Rules.{rules}
 use Rattle.analysis_code.proofs.tied_alike.Goals as goal
 

@@ -3,7 +3,6 @@ use lib.ListN.{length-set, length}
 use Rattle.analysis_code.proofs.Filling.{copy-next, copy_done}
 use native.Mathlib.Omega.{arith}
 use mathlib.Core.Path.{◌≡◌, refl, sym, ◌∙◌}
-use Prim.Native.Nat.{◌-◌}
 use borrow.Author.Rules.{rules}
 use Rattle.analysis_code.proofs.write_row.Goals as goal
 

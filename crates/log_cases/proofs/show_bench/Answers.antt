@@ -1,5 +1,4 @@
 -- `log_cases::show_bench` is safe and ends: the loops count, and the log keeps its 23 bytes.
-use Prim.Native.Nat.{◌-◌}
 use lib.ListN.{length-take}
 use native.Mathlib.Omega.{arith}
 use Rattle.log_cases.proofs.show_bench.Goals as goal

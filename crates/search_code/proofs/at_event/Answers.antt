@@ -2,7 +2,6 @@
 use mathlib.Core.Path.{sym}
 use Rattle.threads.proofs.Marking.{wide-table, wide-steps}
 use Rattle.search_code.proofs.Turns.{turn-of}
-use borrow.Author.Rules.{rules}
 use Rattle.search_code.proofs.at_event.Goals as goal
 
 pub slice_bounds-mark_states-end : goal.slice_bounds-mark_states-end

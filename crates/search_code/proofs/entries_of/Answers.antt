@@ -3,7 +3,7 @@ use Rattle.search_code.proofs.Arrays.{store_entry, entries-are}
 use Rattle.base.specs.Lists.{pad}
 use lib.ListN.{length}
 use mathlib.Core.Path.{◌≡◌, refl}
-use Prim.Native.Nat.{◌-◌, ◌/◌, ◌%◌}
+use Prim.Native.Nat.{◌/◌, ◌%◌}
 use native.Mathlib.Omega.{arith}
 use borrow.Author.Rules.{rules}
 use Rattle.search_code.proofs.entries_of.Goals as goal

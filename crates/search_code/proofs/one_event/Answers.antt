@@ -1,7 +1,6 @@
 -- `search_code::one_event` meets its contract.
 use Rattle.search_code.proofs.Turns.{found_turn, crowded-turn, next-turn}
 use mathlib.Core.Path.{refl}
-use borrow.Author.Rules.{rules}
 use Rattle.search_code.proofs.one_event.Goals as goal
 
 pub returns-then-best : goal.returns-then-best

@@ -1,7 +1,7 @@
 -- `search_code::search_from` meets its contract: before each event the waiting list and the largest width so far lead to the search's answer.
 use borrow.Author.Rules.{rules}
 use native.Mathlib.Omega.{arith}
-use Prim.Native.Nat.{◌-◌, ◌≤◌}
+use Prim.Native.Nat.{◌≤◌}
 use mathlib.Core.Path.{ap, ◌≡◌, refl, sym, ◌∙◌, subst}
 use Rattle.threads.specs.declared.Moment.{Moment}
 use Rattle.threads.specs.declared.Seats.{Seats}

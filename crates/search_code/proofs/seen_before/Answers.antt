@@ -1,10 +1,8 @@
 -- `search_code::seen_before` meets its contract: each turn carries the values over one event.
 use native.Mathlib.Omega.{arith}
-use Prim.Native.Nat.{◌-◌}
 use mathlib.Core.Path.{◌≡◌, ap, ◌∙◌}
 use Rattle.search_code.specs.inner.Turn.{seen_to}
 use Rattle.search_code.proofs.Turns.{seen_start, seen_next_lem}
-use borrow.Author.Rules.{rules}
 use Rattle.search_code.proofs.seen_before.Goals as goal
 
 pub loop-n-init : goal.loop-n-init

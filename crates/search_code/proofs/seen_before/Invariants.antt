@@ -2,7 +2,6 @@
 use Prim.Native.Nat.{◌-◌, ◌≤◌}
 use mathlib.Core.Path.{◌≡◌}
 use Rattle.search_code.specs.inner.Turn.{seen_to}
-use borrow.Author.Rules.{rules}
 use Rattle.search_code.proofs.seen_before.Given as goal
 
 abbrev pub invariant-loop-n : goal.invariant-loop-n

@@ -1,6 +1,6 @@
 -- `search_code::stretch_end` meets its contract: no event before n, from the start on, has a mark behind it.
 use native.Mathlib.Omega.{arith}
-use Prim.Native.Nat.{◌+◌, ◌-◌}
+use Prim.Native.Nat.{◌+◌}
 use mathlib.Core.Path.{refl, ap, sym, ◌∙◌}
 use mathlib.Core.Bool.{cond}
 use Rattle.event_log.specs.declared.Loaded.{Loaded}
