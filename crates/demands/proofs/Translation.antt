@@ -170,7 +170,7 @@ module _ (l f : List ℕ) (g : Log) (fm : Formula) (words : ℕ) (acc : Accepted
         let e = run_out i h b n in
         let c = carried i h b n in
         record {
-          last_event = x.last_event e ∙ last-same i h b n;
+          last_event = x.names_last_event e ∙ last-same i h b n;
           steps = x.steps e ∙ c.steps;
           mask = λ v k. rw (← c.held v) (x.mask e v k);
           eight_bits = x.eight_bits;
@@ -194,7 +194,7 @@ module _ (l f : List ℕ) (g : Log) (fm : Formula) (words : ℕ) (acc : Accepted
             subsumed = Iff.trans x.subsumed (Iff.symm subsumed-same);
             rejected = Iff.trans x.rejected (Iff.symm (told i h).reject);
             blank = λ e. x.blank ((none-same i h roomy).0 e);
-            last_event = λ e. let n = run_in i h e in (x.holds n.0 n.1).last_event ∙ sym (last-same i h n.0 n.1);
+            names_last_event = λ e. let n = run_in i h e in (x.holds n.0 n.1).last_event ∙ sym (last-same i h n.0 n.1);
             steps = λ e. let n = run_in i h e in (x.holds n.0 n.1).steps ∙ sym (carried i h n.0 n.1).steps;
             mask = λ e v k. let n = run_in i h e in rw ((carried i h n.0 n.1).held v) ((x.holds n.0 n.1).mask v k);
             eight_bits = bits_out x (kind i h);

@@ -288,7 +288,7 @@ module _ (l f : List ℕ) (words : ℕ) where
       pub blank : (answer i).verdict ≡ SearchIs.Absent → r ≡ replicate 12 0
       -- "Any other row holds its start's named run, the least": "last event, steps, a mask with bit v set if variable v is held, eight values (0
       -- if not held)"
-      pub last_event : NamesRun i → get_or r 1 0 ≡ last_event i
+      pub names_last_event : NamesRun i → get_or r 1 0 ≡ last_event i
       pub steps : NamesRun i → get_or r 2 0 ≡ (answer i).steps
       pub mask : NamesRun i → (v : ℕ) → v < 8 → get_or r 3 0 / 2 ^ v % 2 ≡ cond (get_or (answer i).held v false) 1 0
       pub eight_bits : get_or r 3 0 < 256
