@@ -1,5 +1,5 @@
--- Predicates on lists, lists of a fixed length as arrays hold them, and lists compared.
-use Rattle.std.specs.Prelude.{ℕ, zero, suc, ◌<◌, Bool, true, false, ◌&&◌, List, [], ◌∷◌}
+-- Predicates on lists, lists of a fixed length as arrays hold them, lists compared, and what a search found.
+use Rattle.std.specs.Prelude.{ℕ, zero, suc, ◌<◌, Bool, true, false, cond, ◌&&◌, List, [], ◌∷◌, ltb, Option, Some, None}
 
 -- every element of the list has the property
 abbrev pub All {ℓ} : {A : Type ℓ} → (A → Type 0) → List A → Type 0
@@ -22,3 +22,11 @@ same_list same [] [] = true
 same_list same [] (y ∷ ys) = false
 same_list same (x ∷ xs) [] = false
 same_list same (x ∷ xs) (y ∷ ys) = same x y && same_list same xs ys
+
+-- a value where the test is true, else none
+abbrev pub some_if : {A : Type 0} → Bool → A → Option A
+some_if found x = cond found (Some x) None
+
+-- what a search found among n, by a number that is n or more where it found nothing
+abbrev pub some_below : ℕ → ℕ → Option ℕ
+some_below n k = some_if (ltb k n) k

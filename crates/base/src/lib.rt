@@ -6,6 +6,13 @@ ghost use Rattle.base.specs.Value.{value_at};
 ghost use Rattle.base.specs.Lists.{pad};
 ghost use Rattle.base.specs.Mask.{bit, mask, bits_of};
 
+// The element at an index, or another value past the end.
+pub fn get_or<T: Copy>(items: &[T], at: usize, other: T) -> T
+    ensures { result ≡ get_or items.now at other }
+{
+    items.get(at).copied().unwrap_or(other)
+}
+
 // Both of two tests.
 pub fn both(a: bool, b: bool) -> bool
     ensures { result ≡ (a && b) }
