@@ -1,5 +1,6 @@
 -- A search of a log with clock marks is answered as that of its start's stretch taken as a log of its own, event numbers carried over.
 use Prim.Native.Nat.{ℕ, zero, suc, ◌+◌, ◌-◌, ◌<◌, ◌≤◌}
+use Rattle.std.specs.Prelude.{Result, Ok, Err}
 use mathlib.Core.Path.{◌≡◌, refl, sym, ap, ◌∙◌}
 use mathlib.Core.Bool.{Bool, true, false, cond}
 use mathlib.Core.List.{List, [], ◌∷◌, map}
@@ -32,8 +33,6 @@ use Rattle.machine.specs.Configuration.{Config}
 use Rattle.machine.specs.Machine.{machine, accepting}
 use Rattle.machine.proofs.Alone.{stretch_of, most, within, stretch-recorded, start-there, search-alone}
 use Rattle.machine.proofs.Premises.{keeps}
-use Rattle.search.specs.declared.Verdict.{Verdict}
-use Rattle.search.specs.declared.Verdict.TheVariants.{Refused, Absent, Accept, Reject}
 use Rattle.search.specs.declared.SearchAnswer.{SearchAnswer}
 use Rattle.search.specs.Search.{slots_of, refusal, answer_of, checked, search_answer}
 
@@ -53,24 +52,19 @@ carried_refusal b (Crowded n) = Crowded (b + n)
 carried_refusal b (Twice p) = Twice p
 carried_refusal b (AbsentState p) = AbsentState p
 
-abbrev pub carried_verdict : ℕ → Verdict → Verdict
-carried_verdict b (Refused r) = Refused (carried_refusal b r)
-carried_verdict b Absent = Absent
-carried_verdict b Accept = Accept
-carried_verdict b Reject = Reject
-
 -- an answer with b added to every event number, unused entries 0
-abbrev pub carried_answer : ℕ → SearchAnswer → SearchAnswer
-carried_answer b s =
-    record {
-      verdict = carried_verdict b s.verdict;
+abbrev pub carried_answer : ℕ → Result SearchAnswer Refusal → Result SearchAnswer Refusal
+carried_answer b (Err r) = Err (carried_refusal b r)
+carried_answer b (Ok s) =
+    Ok (record {
+      verdict = s.verdict;
       steps = s.steps;
       events = pad 32 0 (map (λ n. b + n) (take s.steps s.events));
       numbers = s.numbers;
       held = s.held;
       values = s.values;
       width = s.width;
-    }
+    })
 
 pad-carried : (n b : ℕ) (xs : List ℕ) → pad n 0 (map (λ m. b + m) (take (length xs) (pad n 0 xs))) ≡ pad n 0 (map (λ m. b + m) xs)
 unfolding pad
@@ -82,10 +76,6 @@ events-carried : (b : ℕ) (t : Trail) → events (carried_trail b t) ≡ map (�
 events-carried b [] = refl
 events-carried b (x ∷ t) = ap (λ l. (b + x.event) ∷ l) (events-carried b t)
 
-verdict-carried : (b : ℕ) (t : Bool) → carried_verdict b (cond t Accept Reject) ≡ cond t Accept Reject
-verdict-carried b true = refl
-verdict-carried b false = refl
-
 answer-carried : (g own : Log) (fm : Formula) (b : ℕ) (a : AnswerOver Config) → answer_of g fm (carried b a) ≡ carried_answer b (answer_of own fm a)
 unfolding pad
 answer-carried g own fm b (found c t width) =
@@ -93,7 +83,7 @@ answer-carried g own fm b (found c t width) =
     let l : length (events t) ≡ length t = length-map t _ in
     let es : pad 32 0 (events (carried_trail b t)) ≡ pad 32 0 (map (λ n. b + n) (take (length t) (pad 32 0 (events t)))) =
     ap (pad 32 0) (events-carried b t) ∙ sym (rw l at (pad-carried 32 b (events t))) in
-    rw (k, es, numbers-moved b t, verdict-carried b (accepting fm c))
+    rw (k, es, numbers-moved b t)
 answer-carried g own fm b (absent width) = refl
 answer-carried g own fm b (crowded n) = refl
 

@@ -1,11 +1,13 @@
 -- A search of a log without 03 is answered as before there were absent fields.
 use Prim.Native.Nat.{ℕ}
+use Rattle.std.specs.Prelude.{Result}
 use mathlib.Core.Path.{◌≡◌}
 use mathlib.Core.Bool.{cond}
 use mathlib.Core.List.{List}
 use lib.ListN.{length, length-map}
 use lib.Dec.{leb, ltb}
 use Rattle.base.specs.Lists.{Bytes}
+use Rattle.refusal.specs.declared.Refusal.{Refusal}
 use Rattle.refusal.specs.declared.Refusal.TheVariants.{Outside, Short}
 use Rattle.event_log.specs.Log.{Kind}
 use Rattle.event_log.specs.File.{log_of}
@@ -22,7 +24,7 @@ use Rattle.search.specs.Search.{slots_of, refusal, answer_of, checked, search_an
 -- a log of 02 alone, by its fields' kinds and its events' values, and a formula
 module _ (ks : List Kind) (vs : List (List ℕ)) (fm : Formula) where
   -- the call's own checks, and the search over the machine of before
-  abbrev pub checked_before : ℕ → ℕ → SearchAnswer
+  abbrev pub checked_before : ℕ → ℕ → Result SearchAnswer Refusal
   checked_before start words =
       cond (leb (length vs) start) (refusal (Outside start))
       (cond (ltb words 192) (refusal (Short 192))

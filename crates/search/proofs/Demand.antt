@@ -1,6 +1,7 @@
 -- The search over accepted files meets the third demand, and only its answer does.
 use Prim.Native.Nat.{ℕ, ◌≤◌, ◌<◌}
-use mathlib.Core.Path.{◌≡◌, refl, sym, subst, ◌∙◌}
+use Rattle.std.specs.Prelude.{Result, Ok, Err, IsOkAnd}
+use mathlib.Core.Path.{◌≡◌, refl, sym, ap, subst, ◌∙◌}
 use mathlib.Core.Bool.{Bool, true, false, cond}
 use mathlib.Core.List.{List}
 use native.Mathlib.Omega.{arith}
@@ -22,10 +23,10 @@ use Rattle.machine.specs.Configuration.{Config}
 use Rattle.machine.specs.Firing.{is_held}
 use Rattle.machine.specs.Machine.{machine, accepting}
 use Rattle.machine.proofs.Machine.{Premises, laws}
-use Rattle.search.specs.declared.Verdict.TheVariants.{Refused, Absent, Accept, Reject}
+use Rattle.search.specs.declared.Verdict.TheVariants.{Absent, Accept, Reject}
 use Rattle.search.specs.declared.SearchAnswer.{SearchAnswer}
-use Rattle.search.specs.Search.{slots_of, answer_of, search_answer}
-use Rattle.search.specs.inner.Demand.{Names, Nothing, Carries, Demand}
+use Rattle.search.specs.Search.{slots_of, named, answer_of, search_answer}
+use Rattle.search.specs.inner.Demand.{Says, Names, Nothing, Carries, Demand}
 use Rattle.search.proofs.Checks.{searched}
 use Rattle.search.proofs.Premises.{Accepted, accepted-premises, ends-valid}
 
@@ -38,13 +39,9 @@ search-runs l f log formula start words a h k =
     (λ i. searched l f start words a.file formula a.read i k) h
 
 -- a search that runs is refused with nothing but crowded
-pub only-crowded : (g : Log) (fm : Formula) (a : Answer (machine g fm)) (why : Refusal) → (answer_of g fm a).verdict ≡ Refused why → NotCrowded why → ⊥
-only-crowded g fm (found c t w) why e h = go (accepting fm c) refl
-  where
-    go : (b : Bool) → accepting fm c ≡ b → ⊥
-    go true a = let q = rw a at e in let z : ◌≡◌ {A = ℕ} 0 1 = cc in omega arith
-    go false a = let q = rw a at e in let z : ◌≡◌ {A = ℕ} 0 1 = cc in omega arith
-only-crowded g fm (absent w) why e h = let z : ◌≡◌ {A = ℕ} 0 1 = cc in omega arith
+pub only-crowded : (g : Log) (fm : Formula) (a : Answer (machine g fm)) (why : Refusal) → answer_of g fm a ≡ Err why → NotCrowded why → ⊥
+only-crowded g fm (found c t w) why e h = cc
+only-crowded g fm (absent w) why e h = cc
 only-crowded g fm (crowded n) why e h = h n (cc)
 
 module _ (log : Log) (formula : Formula) (P : Premises log formula) (slots start : ℕ) (inside : start < length log.events) where
@@ -52,7 +49,7 @@ module _ (log : Log) (formula : Formula) (P : Premises log formula) (slots start
   abbrev found-answer : Answer (machine log formula)
   found-answer = search (machine log formula) slots start
 
-  abbrev given : SearchAnswer
+  abbrev given : Result SearchAnswer Refusal
   given = answer_of log formula found-answer
 
   -- it meets the demand of the theory of runs
@@ -63,49 +60,43 @@ module _ (log : Log) (formula : Formula) (P : Premises log formula) (slots start
   pub is-answer : (a : Answer (machine log formula)) → Runs.Demand (machine log formula) slots start a → found-answer ≡ a
   is-answer a d = only_one (machine log formula) slots start found-answer a met d
 
-  -- the verdict of an answer, told back
+  -- what an answer says, told back
   verdict-crowded : (a : Answer (machine log formula)) (n : ℕ) → Runs.Demand (machine log formula) slots start a
-      → (answer_of log formula a).verdict ≡ Refused (Crowded n) → FirstCrowded (machine log formula) slots start n
-  verdict-crowded (found c t w) n d e = go (accepting formula c) refl
-    where
-      go : (b : Bool) → accepting formula c ≡ b → FirstCrowded (machine log formula) slots start n
-      go true a = let q = rw a at e in let z : ◌≡◌ {A = ℕ} 0 1 = cc in absurd (omega arith)
-      go false a = let q = rw a at e in let z : ◌≡◌ {A = ℕ} 0 1 = cc in absurd (omega arith)
-  verdict-crowded (absent w) n d e = let z : ◌≡◌ {A = ℕ} 0 1 = cc in absurd (omega arith)
+      → answer_of log formula a ≡ Err (Crowded n) → FirstCrowded (machine log formula) slots start n
+  verdict-crowded (found c t w) n d e = cc
+  verdict-crowded (absent w) n d e = cc
   verdict-crowded (crowded m) n d e = let q : m ≡ n = cc in rw q at d
 
-  verdict-absent : (a : Answer (machine log formula)) → Runs.Demand (machine log formula) slots start a → (answer_of log formula a).verdict ≡ Absent
+  ends-not-absent : (b : Bool) → cond b Accept Reject ≡ Absent → ⊥
+  ends-not-absent true e = cc
+  ends-not-absent false e = cc
+
+  same-end : (x y : Bool) → cond x Accept Reject ≡ cond y Accept Reject → x ≡ y
+  same-end true true q = refl
+  same-end true false q = cc
+  same-end false true q = cc
+  same-end false false q = refl
+
+  verdict-absent : (a : Answer (machine log formula)) → Runs.Demand (machine log formula) slots start a → Says (answer_of log formula a) Absent
       → Nothing log formula slots start
-  verdict-absent (found c t w) d e = go (accepting formula c) refl
-    where
-      go : (b : Bool) → accepting formula c ≡ b → Nothing log formula slots start
-      go true a = let q = rw a at e in let z : ◌≡◌ {A = ℕ} 0 1 = cc in absurd (omega arith)
-      go false a = let q = rw a at e in let z : ◌≡◌ {A = ℕ} 0 1 = cc in absurd (omega arith)
+  verdict-absent (found c t w) d e = absurd (ends-not-absent (accepting formula c) e)
   verdict-absent (absent w) d e = record { width = w; absent = d }
-  verdict-absent (crowded m) d e = let z : ◌≡◌ {A = ℕ} 0 1 = cc in absurd (omega arith)
+  verdict-absent (crowded m) d e = absurd e
 
   verdict-named : (a : Answer (machine log formula)) (b : Bool) → Runs.Demand (machine log formula) slots start a
-      → (answer_of log formula a).verdict ≡ cond b Accept Reject → Names log formula slots start b
-  verdict-named (found c t w) b d e = record { config = c; trail = t; width = w; named = d; kind = go (accepting formula c) b e }
-    where
-      go : (x y : Bool) → cond x Accept Reject ≡ cond y Accept Reject → x ≡ y
-      go true true q = refl
-      go true false q = let z : ◌≡◌ {A = ℕ} 0 1 = cc in absurd (omega arith)
-      go false true q = let z : ◌≡◌ {A = ℕ} 0 1 = cc in absurd (omega arith)
-      go false false q = refl
-  verdict-named (absent w) true d e = let z : ◌≡◌ {A = ℕ} 0 1 = cc in absurd (omega arith)
-  verdict-named (absent w) false d e = let z : ◌≡◌ {A = ℕ} 0 1 = cc in absurd (omega arith)
-  verdict-named (crowded m) true d e = let z : ◌≡◌ {A = ℕ} 0 1 = cc in absurd (omega arith)
-  verdict-named (crowded m) false d e = let z : ◌≡◌ {A = ℕ} 0 1 = cc in absurd (omega arith)
+      → Says (answer_of log formula a) (cond b Accept Reject) → Names log formula slots start b
+  verdict-named (found c t w) b d e = record { config = c; trail = t; width = w; named = d; kind = same-end (accepting formula c) b e }
+  verdict-named (absent w) b d e = absurd (ends-not-absent b (sym e))
+  verdict-named (crowded m) b d e = absurd e
 
-  named-verdict : (b : Bool) → Names log formula slots start b → given.verdict ≡ cond b Accept Reject
+  named-verdict : (b : Bool) → Names log formula slots start b → Says given (cond b Accept Reject)
   named-verdict b n = rw (is-answer (found n.config n.trail n.width) n.named, n.kind)
 
-  carried : (c : Config) (t : Trail) (w : ℕ) → Runs.Named (machine log formula) slots start c t w → Carries log formula slots start given c t w
-  carried c t w d =
+  named-carries : (c : Config) (t : Trail) (w : ℕ) → Runs.Named (machine log formula) slots start c t w
+      → Carries log formula slots start (named formula c t w) c t w
+  named-carries c t w d =
       let v = ends-valid log formula P c start t d.run.path.follows in
-      rw (is-answer (found c t w) d)
-      (record {
+      record {
         steps = refl;
         events = refl;
         numbers = refl;
@@ -115,7 +106,11 @@ module _ (log : Log) (formula : Formula) (P : Premises log formula) (slots start
         eight =
             (v.held_8, v.values_8);
         width = refl;
-      })
+      }
+
+  carried : (c : Config) (t : Trail) (w : ℕ) → Runs.Named (machine log formula) slots start c t w
+      → IsOkAnd given (λ a. Carries log formula slots start a c t w)
+  carried c t w d = rw (is-answer (found c t w) d) (named-carries c t w d)
 
   pub meets : Demand log formula slots start given
   meets =
@@ -157,16 +152,22 @@ module _ (log : Log) (formula : Formula) (P : Premises log formula) (slots start
       width : s.width ≡ r.width
       width = a.width ∙ sym b.width
 
+  -- an answer that meets the demand, where there is a run
+  only-named : (s : Result SearchAnswer Refusal) → Demand log formula slots start s → (c : Config) (t : Trail) (w : ℕ)
+      → Runs.Named (machine log formula) slots start c t w → s ≡ Ok (named formula c t w)
+  only-named (Ok s) d c t w m = ap Ok (same-run s (named formula c t w) c t w (verdict (accepting formula c) refl) (d.run c t w m) (named-carries c t w m))
+    where
+      verdict : (b : Bool) → accepting formula c ≡ b → s.verdict ≡ cond (accepting formula c) Accept Reject
+      verdict true h = rw h (d.accept.1 (record { config = c; trail = t; width = w; named = m; kind = h }))
+      verdict false h = rw h (d.reject.1 (record { config = c; trail = t; width = w; named = m; kind = h }))
+  only-named (Err why) d c t w m = absurd (d.run c t w m)
+
   -- only one answer meets the demand
-  pub only-answer : (s : SearchAnswer) → Demand log formula slots start s → s ≡ given
+  pub only-answer : (s : Result SearchAnswer Refusal) → Demand log formula slots start s → s ≡ given
   only-answer s d = go found-answer refl met
     where
       go : (a : Answer (machine log formula)) → found-answer ≡ a → Runs.Demand (machine log formula) slots start a → s ≡ answer_of log formula a
-      go (found c t w) q m = rw q at (same-run s given c t w (verdict (accepting formula c) refl) (d.run c t w m) (carried c t w m))
-        where
-          verdict : (b : Bool) → accepting formula c ≡ b → s.verdict ≡ given.verdict
-          verdict true h = rw (q, h) (d.accept.1 (record { config = c; trail = t; width = w; named = m; kind = h }))
-          verdict false h = rw (q, h) (d.reject.1 (record { config = c; trail = t; width = w; named = m; kind = h }))
+      go (found c t w) q m = only-named s d c t w m
       go (absent w) q m = d.nothing w m
       go (crowded n) q m = d.refused n m
 
@@ -178,6 +179,6 @@ third-demand l f log formula start words a h k =
 
 -- And no other answer does.
 pub third-demand-only : (l f : List ℕ) (log : Log) (formula : Formula) (start words : ℕ) → Accepted l f log formula → start < length log.events → 192 ≤ words
-    → (s : SearchAnswer) → Demand log formula (slots_of words) start s → s ≡ search_answer l f start words
+    → (s : Result SearchAnswer Refusal) → Demand log formula (slots_of words) start s → s ≡ search_answer l f start words
 third-demand-only l f log formula start words a h k s d =
     rw (search-runs l f log formula start words a h k) (only-answer log formula (accepted-premises l f log formula a) (slots_of words) start h s d)

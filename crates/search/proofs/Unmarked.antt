@@ -1,10 +1,12 @@
 -- A search of a log without 04 is answered as before there were clock marks.
 use Prim.Native.Nat.{ℕ}
+use Rattle.std.specs.Prelude.{Result}
 use mathlib.Core.Path.{◌≡◌}
 use mathlib.Core.Bool.{cond}
 use mathlib.Core.List.{List}
 use lib.ListN.{length}
 use lib.Dec.{leb, ltb}
+use Rattle.refusal.specs.declared.Refusal.{Refusal}
 use Rattle.refusal.specs.declared.Refusal.TheVariants.{Outside, Short}
 use Rattle.event_log.specs.Log.{Kind}
 use Rattle.event_log.specs.File.{Payload, log_of}
@@ -18,7 +20,7 @@ use Rattle.search.specs.Search.{slots_of, refusal, answer_of, checked, search_an
 -- a log of 02 and 03 alone, by its fields' kinds and what its events send, and a formula
 module _ (ks : List Kind) (ps : List Payload) (fm : Formula) where
   -- the call's own checks, and the search of before
-  abbrev pub checked_unmarked : ℕ → ℕ → SearchAnswer
+  abbrev pub checked_unmarked : ℕ → ℕ → Result SearchAnswer Refusal
   checked_unmarked start words =
       cond (leb (length ps) start) (refusal (Outside start))
       (cond (ltb words 192) (refusal (Short 192))

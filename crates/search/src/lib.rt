@@ -1,12 +1,9 @@
 // The search for the least run from one event of a log.
 #![tactic(auto)]
 
-use refusal::Refusal;
-
-// What a search answers: a refusal, no run, or a run that accepts or rejects.
-#[derive(Clone, Copy)]
+// What a search that is not refused answers: no run, or a run that accepts or rejects.
+#[derive(Clone, Copy, Debug, PartialEq, Eq)]
 pub enum Verdict {
-    Refused(Refusal),
     Absent,
     Accept,
     Reject,

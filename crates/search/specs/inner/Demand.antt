@@ -1,6 +1,7 @@
 -- The third demand on a search's answer, clause by clause, by the literal runs alone.
-use Rattle.std.specs.Prelude.{ℕ, ◌≡◌, ◌↔◌, Bool, true, false, length, get_or}
+use Rattle.std.specs.Prelude.{ℕ, ◌≡◌, ◌↔◌, Bool, true, false, length, get_or, Result, Ok, Err, IsOkAnd}
 use Rattle.base.specs.Lists.{pad}
+use Rattle.refusal.specs.declared.Refusal.{Refusal}
 use Rattle.refusal.specs.declared.Refusal.TheVariants.{Crowded}
 use Rattle.event_log.specs.Log.{Log}
 use Rattle.formula.specs.Formula.{Formula}
@@ -11,9 +12,14 @@ use Rattle.runs.specs.inner.Demand as Runs
 use Rattle.machine.specs.Configuration.{Config}
 use Rattle.machine.specs.Firing.{is_held, value_of}
 use Rattle.machine.specs.Machine.{machine, accepting}
-use Rattle.search.specs.declared.Verdict.TheVariants.{Refused, Absent, Accept, Reject}
+use Rattle.search.specs.declared.Verdict.{Verdict}
+use Rattle.search.specs.declared.Verdict.TheVariants.{Absent, Accept, Reject}
 use Rattle.search.specs.declared.SearchAnswer.{SearchAnswer}
 use Rattle.search.specs.Search.{without, refusal}
+
+-- an answer that is not refused says so
+abbrev pub Says : Result SearchAnswer Refusal → Verdict → Type 0
+Says s v = IsOkAnd s (λ a. a.verdict ≡ v)
 
 -- a log and a formula, so many slots (the paper's seats), a start
 module _ (g : Log) (f : Formula) (slots start : ℕ) where
@@ -41,17 +47,17 @@ module _ (g : Log) (f : Formula) (slots start : ℕ) where
     pub eight : (length s.held ≡ 8) × (length s.values ≡ 8)
     pub width : s.width ≡ w
 
-  pub record Demand (s : SearchAnswer) : Type 0 where
+  pub record Demand (s : Result SearchAnswer Refusal) : Type 0 where
     -- "Refusal 11: after some event n from the start on, no run from the start has ended at or before n and more
     -- configurations wait than there are seats; n is the first such event"
-    pub crowded : (n : ℕ) → (s.verdict ≡ Refused (Crowded n)) ↔ FirstCrowded (machine g f) slots start n
+    pub crowded : (n : ℕ) → (s ≡ Err (Crowded n)) ↔ FirstCrowded (machine g f) slots start n
     -- a refusal names file, number and place, and nothing else
     pub refused : (n : ℕ) → FirstCrowded (machine g f) slots start n → s ≡ refusal (Crowded n)
     -- "Otherwise the search gives accept or reject with the least run"
-    pub accept : (s.verdict ≡ Accept) ↔ Names true
-    pub reject : (s.verdict ≡ Reject) ↔ Names false
-    pub run : (c : Config) (t : Trail) (w : ℕ) → Runs.Named (machine g f) slots start c t w → Carries s c t w
+    pub accept : Says s Accept ↔ Names true
+    pub reject : Says s Reject ↔ Names false
+    pub run : (c : Config) (t : Trail) (w : ℕ) → Runs.Named (machine g f) slots start c t w → IsOkAnd s (λ a. Carries a c t w)
     -- "or none"
-    pub none : (s.verdict ≡ Absent) ↔ Nothing
+    pub none : Says s Absent ↔ Nothing
     -- "unused entries 0", "It also carries the width"
-    pub nothing : (w : ℕ) → Runs.Absent (machine g f) slots start w → s ≡ without Absent w
+    pub nothing : (w : ℕ) → Runs.Absent (machine g f) slots start w → s ≡ Ok (without w)
