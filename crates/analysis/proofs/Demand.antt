@@ -3,6 +3,7 @@ use Prim.Native.Nat.{ℕ, zero, suc, ◌+◌, ◌*◌, ◌-◌, ◌≤◌, ◌<�
 use native.Mathlib.Nat.{zero-add, add-zero, eq-or-lt_of_le, le_antisymm, le_of_eq, le_trans}
 use native.Mathlib.Decide.{dec_lt}
 use native.Mathlib.Omega.{arith}
+use Rattle.std.specs.Prelude.{Result, Ok, Err}
 use mathlib.Core.Path.{◌≡◌, refl, sym, ◌∙◌, subst}
 use mathlib.Core.Logic.{◌⊎◌, inl, inr}
 use mathlib.Core.Bool.{Bool}
@@ -27,7 +28,6 @@ use Rattle.search.specs.Search.{slots_of}
 use Rattle.search.specs.inner.Demand.{Names}
 use Rattle.search.proofs.Premises.{Accepted, accepted-premises}
 use Rattle.search.proofs.Demand.{met}
-use Rattle.analysis.specs.declared.Outcome.TheVariants.{Done, Refused}
 use Rattle.analysis.specs.Rows.{NamedRun, named, verdict, none_row, row, Written, all, upto, before, one, rows_from}
 use Rattle.analysis.specs.Analysis.{written_into, analysis}
 use Rattle.analysis.specs.Call.{row_at}
@@ -36,8 +36,8 @@ use Rattle.analysis.proofs.Checks.{analysed}
 use Rattle.analysis.proofs.Row.{Source, Known, one-named, row-none, row-found}
 
 -- an analysis that runs is refused with nothing but crowded
-pub only-crowded : (w : Written) (rows : List ℕ) (why : Refusal) → (written_into w rows).outcome ≡ Refused why → NotCrowded why → ⊥
-only-crowded (all ws) rows why e h = let z : ◌≡◌ {A = ℕ} 0 1 = cc in omega arith
+pub only-crowded : (w : Written) (rows : List ℕ) (why : Refusal) → (written_into w rows).outcome ≡ Err why → NotCrowded why → ⊥
+only-crowded (all ws) rows why e h = cc
 only-crowded (upto i ws) rows why e h = h i (cc)
 
 -- ---- rows in words
@@ -98,10 +98,10 @@ before-end j m n e h = omega arith
 
 -- ---- outcomes
 
-done≢refused : {i : ℕ} → Done ≡ Refused (Crowded i) → ⊥
-done≢refused e = let z : ◌≡◌ {A = ℕ} 0 1 = cc in omega arith
+done≢refused : {i : ℕ} → ◌≡◌ {A = Result Unit Refusal} (Ok tt) (Err (Crowded i)) → ⊥
+done≢refused e = cc
 
-same_start : {i j : ℕ} → Refused (Crowded i) ≡ Refused (Crowded j) → i ≡ j
+same_start : {i j : ℕ} → ◌≡◌ {A = Result Unit Refusal} (Err (Crowded i)) (Err (Crowded j)) → i ≡ j
 same_start e = cc
 
 module _ (log : Log) (formula : Formula) (P : Premises log formula) (slots : ℕ) where

@@ -1,5 +1,5 @@
 -- The third demand on an analysis: each kind of row exactly when, by the literal runs alone.
-use Rattle.std.specs.Prelude.{ℕ, ◌+◌, ◌*◌, ◌/◌, ◌%◌, ◌^◌, ◌≤◌, ◌<◌, ◌≡◌, ◌↔◌, Bool, true, false, cond, List, length, get_or, drop, replicate}
+use Rattle.std.specs.Prelude.{ℕ, ◌+◌, ◌*◌, ◌/◌, ◌%◌, ◌^◌, ◌≤◌, ◌<◌, ◌≡◌, ◌↔◌, Bool, true, false, cond, List, length, get_or, drop, replicate, Ok, Err}
 use Rattle.refusal.specs.declared.Refusal.TheVariants.{Crowded}
 use Rattle.event_log.specs.Log.{Log}
 use Rattle.formula.specs.Formula.{Formula}
@@ -10,7 +10,6 @@ use Rattle.machine.specs.Configuration.{Config}
 use Rattle.machine.specs.Firing.{is_held, value_of}
 use Rattle.machine.specs.Machine.{machine}
 use Rattle.search.specs.inner.Demand.{Names}
-use Rattle.analysis.specs.declared.Outcome.TheVariants.{Done, Refused}
 use Rattle.analysis.specs.Analysis.{Analysed}
 use Rattle.analysis.specs.Call.{row_at}
 
@@ -83,8 +82,8 @@ module _ (g : Log) (f : Formula) (slots : ℕ) where
   -- an analysis that was lent these row words
   pub record Demand (lent : List ℕ) (a : Analysed) : Type 0 where
     -- refusal 11, "crowded": its place is "the start in an analysis"
-    pub crowded : (i : ℕ) → (a.outcome ≡ Refused (Crowded i)) ↔ FirstCrowded i
-    pub done : (a.outcome ≡ Done) ↔ ((i : ℕ) → i < length g.events → CrowdedFrom i → ⊥)
+    pub crowded : (i : ℕ) → (a.outcome ≡ Err (Crowded i)) ↔ FirstCrowded i
+    pub done : (a.outcome ≡ Ok tt) ↔ ((i : ℕ) → i < length g.events → CrowdedFrom i → ⊥)
     -- "Analysis searches every start in order", "On 11 the rows before that start are written"
     pub rows : (i : ℕ) → i < length g.events → ((j : ℕ) → j ≤ i → CrowdedFrom j → ⊥) → Row i (row_at a.rows i)
     -- "and the rest is untouched"
