@@ -1,21 +1,16 @@
 -- What the static library hands on: the answers of the readers, the search and the analysis as numbers.
-use Rattle.std.specs.Prelude.{ℕ, ◌≤◌, ◌≡◌, List, length}
+use Rattle.std.specs.Prelude.{ℕ, ◌≤◌, ◌≡◌, List, length, Result, Ok, Err}
 use Rattle.refusal.specs.Refusals.{report_of}
 use Rattle.refusal.specs.declared.Refusal.{Refusal}
-use Rattle.refusal.specs.declared.Acceptance.{Acceptance}
-use Rattle.refusal.specs.declared.Acceptance.TheVariants as FileIs
 use Rattle.refusal.specs.declared.Report.{Report}
 use Rattle.event_log.specs.declared.LogReading.{LogReading}
 use Rattle.event_log.specs.Read.{read_log, answer_of as log_answer}
 use Rattle.formula.specs.Read.{read_formula}
-use Rattle.formula_code.specs.declared.FormulaReading.{FormulaReading}
 use Rattle.formula_code.specs.Answer.{answer_of as formula_answer}
 use Rattle.search.specs.declared.Verdict as SearchVerdict
 use Rattle.search.specs.declared.Verdict.TheVariants as SearchIs
 use Rattle.search.specs.declared.SearchAnswer.{SearchAnswer}
-use Rattle.search.specs.Search.{slots_of, search_answer}
-use Rattle.analysis.specs.declared.Outcome as AnalysisOutcome
-use Rattle.analysis.specs.declared.Outcome.TheVariants as AnalysisIs
+use Rattle.search.specs.Search.{slots_of, without, search_answer}
 use Rattle.analysis.specs.Analysis.{analysis}
 use Rattle.exports.specs.declared.Refused.{Refused}
 use Rattle.exports.specs.declared.LogRead.{LogRead}
@@ -32,41 +27,27 @@ named r = three (report_of r)
 abbrev pub nothing : Refused
 nothing = record { file = 0; number = 0; place = 0 }
 
--- the refusal in each answer
-abbrev pub file_refusal : Acceptance → Refused
-file_refusal FileIs.Accepted = nothing
-file_refusal (FileIs.Refused r) = named r
+-- the refusal in an answer
+abbrev pub refusal_in : {A : Type 0} → Result A Refusal → Refused
+refusal_in (Ok a) = nothing
+refusal_in (Err r) = named r
 
-abbrev pub search_refusal : SearchVerdict.Verdict → Refused
-search_refusal (SearchIs.Refused r) = named r
-search_refusal SearchIs.Absent = nothing
-search_refusal SearchIs.Accept = nothing
-search_refusal SearchIs.Reject = nothing
-
-abbrev pub outcome_refusal : AnalysisOutcome.Outcome → Refused
-outcome_refusal AnalysisIs.Done = nothing
-outcome_refusal (AnalysisIs.Refused r) = named r
-
--- 0 none, 1 accept, 2 reject; 0 beside a refusal
+-- 0 none, 1 accept, 2 reject
 abbrev pub verdict_number : SearchVerdict.Verdict → ℕ
-verdict_number (SearchIs.Refused r) = 0
 verdict_number SearchIs.Absent = 0
 verdict_number SearchIs.Accept = 1
 verdict_number SearchIs.Reject = 2
 
 -- a log's reading: the refusal, or the numbers of fields and events
-abbrev pub exported_log : LogReading → LogRead
-exported_log r = record { refused = file_refusal r.acceptance; fields = r.fields; events = r.events }
-
--- a formula's reading: the refusal alone
-abbrev pub exported_formula : FormulaReading → Refused
-exported_formula r = file_refusal r.acceptance
+abbrev pub exported_log : Result LogReading Refusal → LogRead
+exported_log (Ok r) = record { refused = nothing; fields = r.fields; events = r.events }
+exported_log (Err r) = record { refused = named r; fields = 0; events = 0 }
 
 -- a search's answer: the refusal and the verdict as numbers, all else as it is
-abbrev pub exported_search : SearchAnswer → Found
-exported_search a =
+abbrev pub found_by : Refused → SearchAnswer → Found
+found_by refused a =
     record {
-      refused = search_refusal a.verdict;
+      refused = refused;
       verdict = verdict_number a.verdict;
       steps = a.steps;
       events = a.events;
@@ -76,12 +57,17 @@ exported_search a =
       width = a.width;
     }
 
+-- beside a refusal all is 0
+abbrev pub exported_search : Result SearchAnswer Refusal → Found
+exported_search (Ok a) = found_by nothing a
+exported_search (Err r) = found_by (named r) (without 0)
+
 -- The contracts of the exported functions.
 abbrev pub ExportsLog : List ℕ → LogRead → Type 0
 ExportsLog l r = r ≡ exported_log (log_answer (read_log l))
 
 abbrev pub ExportsFormula : List ℕ → ℕ → Refused → Type 0
-ExportsFormula f fields r = r ≡ exported_formula (formula_answer (read_formula fields f))
+ExportsFormula f fields r = r ≡ refusal_in (formula_answer (read_formula fields f))
 
 -- refused, and not with 11, every work word is as it was
 abbrev pub Untouched : Refused → List ℕ → List ℕ → Type 0
@@ -95,7 +81,7 @@ pub record ExportsSearch (l f : List ℕ) (start : ℕ) (work after : List ℕ) 
   pub within : r.width ≤ slots_of (length work)
 
 pub record ExportsAnalysis (l f work work-after rows rows-after : List ℕ) (r : Refused) : Type 0 where
-  pub answer : r ≡ outcome_refusal (analysis l f (length work) rows).outcome
+  pub answer : r ≡ refusal_in (analysis l f (length work) rows).outcome
   pub rows_are : rows-after ≡ (analysis l f (length work) rows).rows
   pub untouched : Untouched r work work-after
   pub number : length work-after ≡ length work

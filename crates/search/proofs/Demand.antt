@@ -25,8 +25,8 @@ use Rattle.machine.specs.Machine.{machine, accepting}
 use Rattle.machine.proofs.Machine.{Premises, laws}
 use Rattle.search.specs.declared.Verdict.TheVariants.{Absent, Accept, Reject}
 use Rattle.search.specs.declared.SearchAnswer.{SearchAnswer}
-use Rattle.search.specs.Search.{slots_of, named, answer_of, search_answer}
-use Rattle.search.specs.inner.Demand.{Says, Names, Nothing, Carries, Demand}
+use Rattle.search.specs.Search.{slots_of, Says, named, answer_of, search_answer}
+use Rattle.search.specs.inner.Demand.{Names, Nothing, Carries, Demand}
 use Rattle.search.proofs.Checks.{searched}
 use Rattle.search.proofs.Premises.{Accepted, accepted-premises, ends-valid}
 

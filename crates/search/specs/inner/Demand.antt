@@ -12,14 +12,9 @@ use Rattle.runs.specs.inner.Demand as Runs
 use Rattle.machine.specs.Configuration.{Config}
 use Rattle.machine.specs.Firing.{is_held, value_of}
 use Rattle.machine.specs.Machine.{machine, accepting}
-use Rattle.search.specs.declared.Verdict.{Verdict}
 use Rattle.search.specs.declared.Verdict.TheVariants.{Absent, Accept, Reject}
 use Rattle.search.specs.declared.SearchAnswer.{SearchAnswer}
-use Rattle.search.specs.Search.{without, refusal}
-
--- an answer that is not refused says so
-abbrev pub Says : Result SearchAnswer Refusal → Verdict → Type 0
-Says s v = IsOkAnd s (λ a. a.verdict ≡ v)
+use Rattle.search.specs.Search.{without, refusal, Says}
 
 -- a log and a formula, so many slots (the paper's seats), a start
 module _ (g : Log) (f : Formula) (slots start : ℕ) where
