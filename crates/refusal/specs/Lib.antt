@@ -1,3 +1,2 @@
 -- Definitions of the refusals.
 pub mod Refusals
-pub mod inner

@@ -1,19 +1,18 @@
-// Refusals: what a file or a call is refused with, and the file, number and place that an answer names; and whether a file is accepted.
+// Refusals: what a file or a call is refused with, and the file, number and place that an answer names.
 #![tactic(auto)]
 
 ghost use Rattle.std.specs.Prelude.{◌≡◌};
-ghost use Rattle.refusal.specs.Refusals.{report_of};
-ghost use Rattle.refusal.specs.inner.Acceptance.{refusal_of};
+ghost use Rattle.refusal.specs.Refusals.{file_number, line, report_of};
 
 // The file that a refusal speaks of; 9, 10 and 11 speak of the call, file 3.
-#[derive(Clone, Copy)]
+#[derive(Clone, Copy, Debug, PartialEq, Eq)]
 pub enum File {
     Log,
     Formula,
 }
 
 // One case for each refusal, in the order of their numbers. A place in a file is the offset of a command's first byte.
-#[derive(Clone, Copy)]
+#[derive(Clone, Copy, Debug, PartialEq, Eq)]
 pub enum Refusal {
     // 1: operands run past the end; with END missing, the file length
     CutShort { file: File, place: usize },
@@ -43,15 +42,8 @@ pub enum Refusal {
     AbsentState { place: usize },
 }
 
-// Whether a file is accepted.
-#[derive(Clone, Copy)]
-pub enum Acceptance {
-    Accepted,
-    Refused(Refusal),
-}
-
 // What an answer names: the file (1 log, 2 formula, 3 the call), the number and the place.
-#[derive(Clone, Copy)]
+#[derive(Clone, Copy, Debug, PartialEq, Eq)]
 pub struct Report {
     pub file: usize,
     pub number: usize,
@@ -59,18 +51,20 @@ pub struct Report {
 }
 
 // The file's number.
-fn file_number(f: File) -> usize
-    ensures { result ≡ Rattle.refusal.specs.Refusals.file_number f }
-{
-    match f {
-        File::Log => 1,
-        File::Formula => 2,
+impl From<File> for usize {
+    ghost from_gives = { λ f n. n ≡ file_number f };
+
+    fn from(f: File) -> usize {
+        match f {
+            File::Log => 1,
+            File::Formula => 2,
+        }
     }
 }
 
 // A line of the table of refusals.
 fn line(file: usize, number: usize, place: usize) -> Report
-    ensures { result ≡ Rattle.refusal.specs.Refusals.line file number place }
+    ensures { result ≡ line file number place }
 {
     Report {
         file,
@@ -80,32 +74,24 @@ fn line(file: usize, number: usize, place: usize) -> Report
 }
 
 // File, number and place of a refusal.
-pub fn report_of(r: Refusal) -> Report
-    ensures { result ≡ report_of r }
-{
-    match r {
-        Refusal::CutShort { file, place } => line(file_number(file), 1, place),
-        Refusal::Foreign { file, place } => line(file_number(file), 2, place),
-        Refusal::Value { file, place } => line(file_number(file), 3, place),
-        Refusal::Surplus { file, place } => line(file_number(file), 4, place),
-        Refusal::Leftover { file, place } => line(file_number(file), 5, place),
-        Refusal::StepBack { place } => line(1, 6, place),
-        Refusal::DeadStart => line(2, 7, 0),
-        Refusal::Unbound { place } => line(2, 8, place),
-        Refusal::Outside { start } => line(3, 9, start),
-        Refusal::Short { needed } => line(3, 10, needed),
-        Refusal::Crowded { place } => line(3, 11, place),
-        Refusal::Twice { place } => line(2, 12, place),
-        Refusal::AbsentState { place } => line(2, 13, place),
-    }
-}
+impl From<Refusal> for Report {
+    ghost from_gives = { λ r t. t ≡ report_of r };
 
-// The refusal of a file that is not accepted.
-pub fn refusal_of(a: Acceptance) -> Refusal
-    ensures { result ≡ refusal_of a }
-{
-    match a {
-        Acceptance::Refused(r) => r,
-        Acceptance::Accepted => Refusal::DeadStart,
+    fn from(r: Refusal) -> Report {
+        match r {
+            Refusal::CutShort { file, place } => line(file.into(), 1, place),
+            Refusal::Foreign { file, place } => line(file.into(), 2, place),
+            Refusal::Value { file, place } => line(file.into(), 3, place),
+            Refusal::Surplus { file, place } => line(file.into(), 4, place),
+            Refusal::Leftover { file, place } => line(file.into(), 5, place),
+            Refusal::StepBack { place } => line(1, 6, place),
+            Refusal::DeadStart => line(2, 7, 0),
+            Refusal::Unbound { place } => line(2, 8, place),
+            Refusal::Outside { start } => line(3, 9, start),
+            Refusal::Short { needed } => line(3, 10, needed),
+            Refusal::Crowded { place } => line(3, 11, place),
+            Refusal::Twice { place } => line(2, 12, place),
+            Refusal::AbsentState { place } => line(2, 13, place),
+        }
     }
 }

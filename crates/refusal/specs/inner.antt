@@ -1,2 +1,0 @@
--- Vocabulary of inner contracts; nothing to be believed stands here.
-pub mod Acceptance
