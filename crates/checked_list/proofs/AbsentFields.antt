@@ -4,8 +4,8 @@ use mathlib.Core.Path.{◌≡◌, refl}
 use mathlib.Core.List.{List, ◌++◌}
 use mathlib.Core.Option.{some}
 use Rattle.refusal.specs.Refusals.{line}
+use Rattle.std.specs.Prelude.{Ok}
 use Rattle.search.specs.Search.{without, search_answer}
-use Rattle.search.specs.declared.Verdict.TheVariants.{Absent}
 use Rattle.checked_list.proofs.Bench.{definitions, hex, F, seats, analysed, done, row_of, none, refused}
 
 -- a trip at 500, a trip whose time is absent, an open at 520; F of the bench: a trip binds its time, then an open
@@ -62,13 +62,13 @@ pub record AbsentFields : Type 0 where
   -- "A rising field is compared with its last present value"
   pub falls : refused fallen F ≡ some (line 1 6 23)
   -- "Hopeless steps are judged by the last present value up to n", also from before the start: dropped; with none: waits
-  pub past : search_answer at600 before600 1 (seats 1) ≡ without Absent 0
-  pub unknown : search_answer never before600 1 (seats 1) ≡ without Absent 1
+  pub past : search_answer at600 before600 1 (seats 1) ≡ Ok (without 0)
+  pub unknown : search_answer never before600 1 (seats 1) ≡ Ok (without 1)
   -- "a guard naming a variable or sum that would take its value, doesn't make the step hopeless; a length counts the value all the same"
-  pub by_length : search_answer never fewer 0 (seats 1) ≡ without Absent 0
-  pub by-sum : search_answer never less 0 (seats 1) ≡ without Absent 1
-  pub by_name : search_answer never untaken 0 (seats 1) ≡ without Absent 1
-  pub by_value : search_answer at3 untaken 0 (seats 1) ≡ without Absent 0
+  pub by_length : search_answer never fewer 0 (seats 1) ≡ Ok (without 0)
+  pub by-sum : search_answer never less 0 (seats 1) ≡ Ok (without 1)
+  pub by_name : search_answer never untaken 0 (seats 1) ≡ Ok (without 1)
+  pub by_value : search_answer at3 untaken 0 (seats 1) ≡ Ok (without 0)
   -- "unequal" of an absent field does not hold; all bits 0 is a correct event
   pub unequal : analysed nothing not_five 2 ≡ done (none ++ none)
   -- "Bits beyond the fields and value bytes of an absent field must be 0, else number 3"

@@ -6,6 +6,7 @@ use Prim.Native.String.{String}
 use mathlib.Core.Path.{◌≡◌, refl}
 use mathlib.Core.Bool.{cond}
 use mathlib.Core.List.{List, [], ◌∷◌, ◌++◌, flat_map}
+use Rattle.std.specs.Prelude.{Result, Ok, Err}
 use mathlib.Core.Option.{Option, none as Option·none, some}
 use lib.ListN.{length, replicate}
 use lib.Dec.{leb, eqb}
@@ -13,6 +14,7 @@ use Rattle.base.specs.Value.{bytes_of, value_at}
 use Rattle.base.specs.Lists.{pad}
 use Rattle.base.specs.Mask.{mask, bits_of}
 use Rattle.refusal.specs.Refusals.{line, report_of}
+use Rattle.refusal.specs.declared.Refusal.{Refusal}
 use Rattle.refusal.specs.declared.Report.{Report}
 use Rattle.event_log.specs.Log.{plain, rising, event_at}
 use Rattle.event_log.specs.Latest as Latest
@@ -40,10 +42,6 @@ use Rattle.runs.specs.inner.Search as Runs
 use Rattle.runs.specs.inner.Search.{firing, moves, stays, unended, offers, endings, lesser, least_from, least, any_alive, hopeful, waiting, waiting_count, scan, origin, end_from, end_of, search}
 use Rattle.search.specs.Search as Search
 use Rattle.search.specs.Search.{slots_of, without, search_answer}
-use Rattle.search.specs.declared.Verdict.{Verdict}
-use Rattle.search.specs.declared.Verdict.TheVariants.{Refused, Absent, Accept, Reject}
-use Rattle.analysis.specs.declared.Outcome.{Outcome}
-use Rattle.analysis.specs.declared.Outcome.TheVariants.{Done, Refused as Outcome-as-Refused}
 use Rattle.analysis.specs.Rows.{named, tied_alike, subsumes, subsumed, verdict, none_row, row, rows_from}
 use Rattle.analysis.specs.Analysis as Analysis
 use Rattle.analysis.specs.Analysis.{Analysed, analysis}
@@ -135,7 +133,7 @@ analysed l f events = analysis l f (seats 64) (lent events)
 
 -- all rows are written, and are these
 abbrev pub done : List ℕ → Analysed
-done rows = record { outcome = Done; rows = rows }
+done rows = record { outcome = Ok tt; rows = rows }
 
 -- a row: verdict, last event, steps, mask, the value of variable 0; a none row
 abbrev pub row_of : ℕ → ℕ → ℕ → ℕ → ℕ → List ℕ
@@ -145,18 +143,12 @@ abbrev pub none : List ℕ
 none = replicate 12 0
 
 -- file, number and place that a search and an analysis are refused with
-abbrev search_report : Verdict → Option Report
-search_report (Refused r) = some (report_of r)
-search_report Absent = Option·none
-search_report Accept = Option·none
-search_report Reject = Option·none
-
-abbrev report : Outcome → Option Report
-report Done = Option·none
-report (Outcome-as-Refused r) = some (report_of r)
+abbrev report : {A : Type 0} → Result A Refusal → Option Report
+report (Ok a) = Option·none
+report (Err r) = some (report_of r)
 
 abbrev pub search_refused : List ℕ → List ℕ → ℕ → ℕ → Option Report
-search_refused l f start words = search_report (search_answer l f start words).verdict
+search_refused l f start words = report (search_answer l f start words)
 
 abbrev pub refused : List ℕ → List ℕ → Option Report
 refused l f = report (analysed l f 2).outcome
@@ -199,7 +191,7 @@ pub record Bench : Type 0 where
   pub m11-sub : (c : Configuration.Config) → value c (SUB (LEAF (CONST 3)) (LEAF (CONST 5))) ≡ 0
   -- "M12 .. from 0, two seats give 11 at event 2; three give none, width 3"
   pub m12-two : search_refused three_events bare 0 (seats 2) ≡ some (line 3 11 2)
-  pub m12-three : search_answer three_events bare 0 (seats 3) ≡ without Absent 3
+  pub m12-three : search_answer three_events bare 0 (seats 3) ≡ Ok (without 3)
   -- "M13 events (1,1), (2,1), (3,2) with F: alert, subsumed, none; with TIED 0: alert, alert, none"
   pub m13 : analysed trips F 3 ≡ done (row_of 1 2 2 1 1 ++ (row_of 2 2 2 1 2 ++ none))
   pub m13-tied : analysed trips tied_f 3 ≡ done (row_of 1 2 2 1 1 ++ (row_of 1 2 2 1 2 ++ none))

@@ -4,8 +4,8 @@ use mathlib.Core.Path.{◌≡◌, refl}
 use mathlib.Core.List.{List, ◌++◌}
 use mathlib.Core.Option.{some}
 use Rattle.refusal.specs.Refusals.{line}
+use Rattle.std.specs.Prelude.{Ok}
 use Rattle.search.specs.Search.{without, search_answer}
-use Rattle.search.specs.declared.Verdict.TheVariants.{Absent}
 use Rattle.checked_list.proofs.Bench.{definitions, hex, seats, analysed, done, row_of, none, search_refused, refused}
 
 -- bounces 3, 3 and 4, and one less
@@ -50,11 +50,11 @@ pub record Bounces : Type 0 where
   pub by-sum : analysed bounces at_least_ten 3 ≡ done (row_of 1 2 3 0 0 ++ (none ++ none))
   pub one_less : analysed one_fewer at_least_ten 3 ≡ done (none ++ (none ++ none))
   -- "Two configurations are equal only if their lists are": apart with unlike readings, one with like readings
-  pub apart : search_answer unlike two 0 (seats 3) ≡ without Absent 3
+  pub apart : search_answer unlike two 0 (seats 3) ≡ Ok (without 3)
   pub crowded : search_refused unlike two 0 (seats 2) ≡ some (line 3 11 2)
-  pub one : search_answer alike two 0 (seats 2) ≡ without Absent 2
+  pub one : search_answer alike two 0 (seats 2) ≡ Ok (without 2)
   -- lists, not sets: 1, 2, 3 and 1, 3, 2 wait apart
-  pub in_order : search_answer turned three 0 (seats 6) ≡ without Absent 6
+  pub in_order : search_answer turned three 0 (seats 6) ≡ Ok (without 6)
   -- 12 "twice, one STEP gathers a variable a second time, .. at that GATHER"
   pub second : refused bounces twice ≡ some (line 2 12 7)
   pub two-lists : analysed bounces both 3 ≡ done (row_of 1 0 1 0 0 ++ (row_of 1 1 1 0 0 ++ row_of 1 2 1 0 0))

@@ -5,8 +5,8 @@ use mathlib.Core.List.{List, [], ◌∷◌, ◌++◌}
 use mathlib.Core.Option.{some}
 use lib.ListN.{replicate}
 use Rattle.refusal.specs.Refusals.{line}
+use Rattle.std.specs.Prelude.{Ok}
 use Rattle.search.specs.Search.{without, search_answer}
-use Rattle.search.specs.declared.Verdict.TheVariants.{Absent}
 use Rattle.checked_list.proofs.Bench.{definitions, hex, F, back, seats, analysed, done, row_of, none, search_refused, refused}
 use Rattle.checked_list.proofs.AbsentFields.{at600, before600}
 
@@ -64,13 +64,13 @@ pub record ClockMarks : Type 0 where
   pub sixty-four : analysed (marked 64) every_event 0 ≡ done []
   pub sixty-fifth : refused (marked 65) every_event ≡ some (line 1 4 66)
   -- what waits after a stretch's last event counts, and behind it nothing waits: crowded in the first stretch and none in the second
-  pub waits : search_answer set_back F 0 (seats 1) ≡ without Absent 1
+  pub waits : search_answer set_back F 0 (seats 1) ≡ Ok (without 1)
   pub crowded : search_refused busy every_event 0 (seats 1) ≡ some (line 3 11 1)
-  pub roomy : search_answer busy every_event 3 (seats 1) ≡ without Absent 1
-  pub last-of-stretch : search_answer busy every_event 2 (seats 1) ≡ without Absent 1
+  pub roomy : search_answer busy every_event 3 (seats 1) ≡ Ok (without 1)
+  pub last-of-stretch : search_answer busy every_event 2 (seats 1) ≡ Ok (without 1)
   -- "with no last present value": a step that is hopeless by 600 waits behind the mark
-  pub known : search_answer at600 before600 1 (seats 1) ≡ without Absent 0
-  pub unknown : search_answer afresh before600 1 (seats 1) ≡ without Absent 1
+  pub known : search_answer at600 before600 1 (seats 1) ≡ Ok (without 0)
+  pub unknown : search_answer afresh before600 1 (seats 1) ≡ Ok (without 1)
 
 -- Each case holds by computing both sides.
 pub clock-marks-hold : ClockMarks

@@ -1,10 +1,12 @@
 -- The three demands as theorems about the public entries: whatever meets an entry's contract meets them. l and f are the bytes of the two files
 -- (a slice of bytes is a list of numbers below 256).
 use Prim.Native.Nat.{ℕ, ◌+◌, ◌*◌, ◌≤◌, ◌<◌}
+use Rattle.std.specs.Prelude.{Result, IsOkAnd, IfOk}
 use mathlib.Core.Path.{◌≡◌, refl, sym, ◌∙◌, subst}
 use mathlib.Core.List.{List}
 use lib.ListN.{length, get_or}
 use Rattle.base.specs.Lists.{Bytes}
+use Rattle.refusal.specs.declared.Refusal.{Refusal}
 use Rattle.event_log.specs.declared.LogReading.{LogReading}
 use Rattle.event_log.specs.File.{LogFile, log_of}
 use Rattle.event_log.specs.Read.{read_log, answer_of as log_answer, ReadsLog}
@@ -20,7 +22,6 @@ use Rattle.search.specs.Search.{slots_of}
 use Rattle.search.specs.Call.{Searched}
 use Rattle.files.proofs.Reading.{both_read}
 use Rattle.search.proofs.Premises.{Accepted}
-use Rattle.analysis.specs.declared.Outcome.{Outcome}
 use Rattle.analysis.specs.Call.{Analyses}
 use Rattle.exports.specs.declared.Refused.{Refused}
 use Rattle.exports.specs.declared.LogRead.{LogRead}
@@ -36,45 +37,45 @@ use Rattle.demands.proofs.Rows.{rows-meet, rows-only}
 use Rattle.demands.proofs.Exports as Exports
 
 -- FIRST: every byte string is accepted or refused with file, number and place
-pub first-log : (l : List ℕ) (r : LogReading) → ReadsLog l r → FirstOfLog l r
+pub first-log : (l : List ℕ) (r : Result LogReading Refusal) → ReadsLog l r → FirstOfLog l r
 first-log l r c = Files.log-first l r c
 
-pub first-formula : (f : List ℕ) (fields : ℕ) (r : FormulaReading) → ReadsFormula f fields r → FirstOfFormula f r
+pub first-formula : (f : List ℕ) (fields : ℕ) (r : Result FormulaReading Refusal) → ReadsFormula f fields r → FirstOfFormula f r
 first-formula f fields r c = Files.formula-first f fields r c
 
 -- 13 is answered exactly when a STEP or COUNT of a file that is well formed otherwise names an absent state
-pub absent-formula : (f : List ℕ) (fields : ℕ) (r : FormulaReading) → Bytes f → ReadsFormula f fields r → AbsentOfFormula f fields r
+pub absent-formula : (f : List ℕ) (fields : ℕ) (r : Result FormulaReading Refusal) → Bytes f → ReadsFormula f fields r → AbsentOfFormula f fields r
 absent-formula f fields r b c = Files.formula-absent f fields r b c
 
 module _ (l f : List ℕ) where
   -- a call's checks, in order; a refusal leaves every lent word alone
-  pub first-search : (start : ℕ) (work after : List ℕ) (r : SearchAnswer) → Searched l f start work after r → FirstOfSearch l f start work after r
+  pub first-search : (start : ℕ) (work after : List ℕ) (r : Result SearchAnswer Refusal) → Searched l f start work after r → FirstOfSearch l f start work after r
   first-search start work after r c = Calls.search-first l f start (length work) r work after refl c
 
-  pub first-analysis : Bytes l → Bytes f → (work work-after rows rows-after : List ℕ) (r : Outcome) → Analyses l f work work-after rows rows-after r
+  pub first-analysis : Bytes l → Bytes f → (work work-after rows rows-after : List ℕ) (r : Result Unit Refusal) → Analyses l f work work-after rows rows-after r
       → FirstOfAnalysis l f work work-after rows rows-after r
   first-analysis b d work work-after rows rows-after r c = Calls.analysis-first l f (length work) rows work work-after rows-after r refl b d c
 
 -- SECOND: a reader accepts exactly when the file is the encoding of a correct log (formula), and reads it as that one
-pub second-log : (l : List ℕ) (r : LogReading) → Bytes l → ReadsLog l r → SecondOfLog l r
+pub second-log : (l : List ℕ) (r : Result LogReading Refusal) → Bytes l → ReadsLog l r → SecondOfLog l r
 second-log l r b c = Files.log-second l r b c
 
-pub second-formula : (f : List ℕ) (fields : ℕ) (r : FormulaReading) → Bytes f → ReadsFormula f fields r → SecondOfFormula f fields r
+pub second-formula : (f : List ℕ) (fields : ℕ) (r : Result FormulaReading Refusal) → Bytes f → ReadsFormula f fields r → SecondOfFormula f fields r
 second-formula f fields r b c = Files.formula-second f fields r b c
 
 -- the table that firing finds its steps by: for every state and step number, the offset of that STEP or that there is none
-pub steps-formula : (f : List ℕ) (fields : ℕ) (r : FormulaReading) → ReadsFormula f fields r → StepsOfFormula f fields r
+pub steps-formula : (f : List ℕ) (fields : ℕ) (r : Result FormulaReading Refusal) → ReadsFormula f fields r → StepsOfFormula f fields r
 steps-formula f fields r c = Files.formula-steps f fields r c
 
 -- no other table says so
-pub steps-formula-only : (f : List ℕ) (fields : ℕ) (r : FormulaReading) → ReadsFormula f fields r → (fm : Formula) → IsFormula fields f fm → (table : List ℕ)
-    → length table ≡ 128 → ((s k : ℕ) → s < 16 → k < 8 → Located fm s k (get_or table (s * 8 + k) 0)) → table ≡ r.table
+pub steps-formula-only : (f : List ℕ) (fields : ℕ) (r : Result FormulaReading Refusal) → ReadsFormula f fields r → (fm : Formula) → IsFormula fields f fm → (table : List ℕ)
+    → length table ≡ 128 → ((s k : ℕ) → s < 16 → k < 8 → Located fm s k (get_or table (s * 8 + k) 0)) → IsOkAnd r (λ a. table ≡ a.table)
 steps-formula-only f fields r c fm is table n says = Files.formula-steps-only f fields r c fm is table n says
 
 module _ (l f : List ℕ) (bytes : Bytes l) (more : Bytes f) where
   -- the events of a named run rise by their number in the file
-  pub second-search : (start : ℕ) (work after : List ℕ) (r : SearchAnswer) → Searched l f start work after r → SecondOfSearch start r
-  second-search start work after r c = subst (SecondOfSearch start) (sym c.answer) (Calls.search-second l f start (length work) bytes more)
+  pub second-search : (start : ℕ) (work after : List ℕ) (r : Result SearchAnswer Refusal) → Searched l f start work after r → IfOk r (SecondOfSearch start)
+  second-search start work after r c = rw c.answer (Calls.search-second l f start (length work) bytes more)
 
   -- THIRD: an accepted log and formula, one seat or more
   module _ (t : LogFile) (fm : Formula) (log : IsLog l t) (formula : IsFormula (length t.fields) f fm) (work : List ℕ) (seat : 192 ≤ length work) where
@@ -91,24 +92,24 @@ module _ (l f : List ℕ) (bytes : Bytes l) (more : Bytes f) where
         }
 
     -- a search at any event of the log
-    module _ (start : ℕ) (inside : start < length (log_of t).events) (after : List ℕ) (r : SearchAnswer) (contract : Searched l f start work after r) where
+    module _ (start : ℕ) (inside : start < length (log_of t).events) (after : List ℕ) (r : Result SearchAnswer Refusal) (contract : Searched l f start work after r) where
       pub third-search : ThirdOfSearch (log_of t) fm (slots_of (length work)) start r
       third-search =
           subst (ThirdOfSearch (log_of t) fm (slots_of (length work)) start) (sym contract.answer)
           (search-meet l f (log_of t) fm start (length work) both inside seat)
 
       -- no other answer meets the demand
-      pub third-search-only : (s : SearchAnswer) → ThirdOfSearch (log_of t) fm (slots_of (length work)) start s → s ≡ r
+      pub third-search-only : (s : Result SearchAnswer Refusal) → ThirdOfSearch (log_of t) fm (slots_of (length work)) start s → s ≡ r
       third-search-only s d = search-only l f (log_of t) fm start (length work) both inside seat s d ∙ sym contract.answer
 
     -- the rows of an analysis
-    module _ (work-after rows rows-after : List ℕ) (room : 12 * length (log_of t).events ≤ length rows) (r : Outcome)
+    module _ (work-after rows rows-after : List ℕ) (room : 12 * length (log_of t).events ≤ length rows) (r : Result Unit Refusal)
         (contract : Analyses l f work work-after rows rows-after r) where
       pub third-rows : ThirdOfRows l f (length work) fm (length (log_of t).events) rows rows-after r
       third-rows = rw (contract.rows, contract.outcome) (rows-meet l f (log_of t) fm work rows both seat room)
 
       -- no other rows and answer meet the demand
-      pub third-rows-only : (after : List ℕ) (o : Outcome) → ThirdOfRows l f (length work) fm (length (log_of t).events) rows after o
+      pub third-rows-only : (after : List ℕ) (o : Result Unit Refusal) → ThirdOfRows l f (length work) fm (length (log_of t).events) rows after o
           → (o ≡ r) × (after ≡ rows-after)
       third-rows-only after o d =
           let q = rows-only l f (log_of t) fm work rows both seat room after o d in

@@ -1,21 +1,19 @@
 -- The static library's functions hand on answers that meet the entries' contracts: their numbers tell a call that was refused before it ran.
 use Prim.Native.Nat.{ℕ}
-use mathlib.Core.Path.{◌≡◌, refl, ap, subst}
+use Rattle.std.specs.Prelude.{◌≤◌, Result, Ok, Err, IfOk}
+use mathlib.Core.Path.{◌≡◌, refl, sym, ap, ◌∙◌, subst}
 use mathlib.Core.List.{List}
 use native.Mathlib.Omega.{arith}
 use lib.ListN.{length}
 use Rattle.refusal.specs.declared.Refusal.{Refusal}
 use Rattle.refusal.specs.declared.Refusal.TheVariants.{CutShort, Foreign, Value, Surplus, Leftover, StepBack, DeadStart, Unbound, Outside, Short, Crowded, Twice, AbsentState}
 use Rattle.refusal.specs.Refusals.{report_of, NotCrowded}
-use Rattle.search.specs.declared.Verdict.{Verdict}
-use Rattle.search.specs.declared.Verdict.TheVariants as SearchIs
-use Rattle.search.specs.Search.{search_answer}
-use Rattle.analysis.specs.declared.Outcome.{Outcome}
-use Rattle.analysis.specs.declared.Outcome.TheVariants as AnalysisIs
+use Rattle.search.specs.declared.SearchAnswer.{SearchAnswer}
+use Rattle.search.specs.Search.{slots_of, search_answer}
 use Rattle.analysis.specs.Analysis.{analysis}
 use Rattle.exports.specs.declared.Refused.{Refused}
 use Rattle.exports.specs.declared.Found.{Found}
-use Rattle.exports.specs.Exports.{search_refusal, outcome_refusal, Untouched, ExportsSearch, ExportsAnalysis}
+use Rattle.exports.specs.Exports.{refusal_in, exported_search, Untouched, ExportsSearch, ExportsAnalysis}
 use Rattle.demands.specs.Demands.{HandsOnSearch, HandsOnAnalysis}
 
 -- every refusal has a number, and 11 is crowded alone
@@ -34,12 +32,17 @@ numbered (Crowded p) h = absurd (h p refl)
 numbered (Twice p) h = (λ e. omega (arith, e), λ e. omega (arith, e))
 numbered (AbsentState p) h = (λ e. omega (arith, e), λ e. omega (arith, e))
 
-module _ (work after : List ℕ) where
-  by-search : (v : Verdict) → Untouched (search_refusal v) work after → (why : Refusal) → v ≡ SearchIs.Refused why → NotCrowded why → after ≡ work
-  by-search v u why e h = let n = numbered why h in subst (λ x. Untouched (search_refusal x) work after) e u n.0 n.1
+by-answer : {A : Type 0} (work after : List ℕ) (r : Result A Refusal) → Untouched (refusal_in r) work after → (why : Refusal) → r ≡ Err why → NotCrowded why
+    → after ≡ work
+by-answer work after r u why e h = let n = numbered why h in (rw e at u) n.0 n.1
 
-  by-outcome : (o : Outcome) → Untouched (outcome_refusal o) work after → (why : Refusal) → o ≡ AnalysisIs.Refused why → NotCrowded why → after ≡ work
-  by-outcome o u why e h = let n = numbered why h in subst (λ x. Untouched (outcome_refusal x) work after) e u n.0 n.1
+refused_is : (s : Result SearchAnswer Refusal) → (exported_search s).refused ≡ refusal_in s
+refused_is (Ok a) = refl
+refused_is (Err why) = refl
+
+within : (s : Result SearchAnswer Refusal) (n : ℕ) → (exported_search s).width ≤ n → IfOk s (λ a. a.width ≤ n)
+within (Ok a) n h = h
+within (Err why) n h = tt
 
 module _ (l f : List ℕ) where
   pub search-handed : (start : ℕ) (work after : List ℕ) (r : Found) → ExportsSearch l f start work after r → HandsOnSearch l f start work after r
@@ -49,9 +52,9 @@ module _ (l f : List ℕ) where
         found = s;
         contract = record {
           answer = refl;
-          untouched = by-search work after s.verdict (subst (λ (x : Found). Untouched x.refused work after) c.answer c.untouched);
+          untouched = by-answer work after s (rw (ap (λ (x : Found). x.refused) c.answer ∙ refused_is s) at c.untouched);
           number = c.number;
-          within = rw (ap (λ (x : Found). x.width) c.answer) at c.within;
+          within = within s (slots_of (length work)) (rw (ap (λ (x : Found). x.width) c.answer) at c.within);
         };
         numbers_are = c.answer;
       }
@@ -65,7 +68,7 @@ module _ (l f : List ℕ) where
         contract = record {
           outcome = refl;
           rows = c.rows_are;
-          untouched = by-outcome work work-after a.outcome (subst (λ (x : Refused). Untouched x work work-after) c.answer c.untouched);
+          untouched = by-answer work work-after a.outcome (subst (λ (x : Refused). Untouched x work work-after) c.answer c.untouched);
           number = c.number;
         };
         numbers_are = c.answer;

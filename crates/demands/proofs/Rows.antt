@@ -1,6 +1,7 @@
 -- The rows of an analysis over accepted files meet the third demand as the page states it, by the search's answers, and only they do.
 use Prim.Native.Nat.{ℕ, ◌*◌, ◌≤◌, ◌<◌}
 use native.Mathlib.Nat.{le_refl, lt_trans, lt_of_le_of_lt}
+use Rattle.std.specs.Prelude.{Result}
 use mathlib.Core.Path.{◌≡◌, ap}
 use mathlib.Core.Logic.Iff
 use mathlib.Core.Logic.{◌↔◌}
@@ -10,7 +11,7 @@ use Rattle.event_log.specs.Log.{Log}
 use Rattle.formula.specs.Formula.{Formula}
 use Rattle.search.specs.Search.{slots_of}
 use Rattle.search.proofs.Premises.{Accepted}
-use Rattle.analysis.specs.declared.Outcome.{Outcome}
+use Rattle.refusal.specs.declared.Refusal.{Refusal}
 use Rattle.analysis.specs.Analysis.{Analysed, analysis}
 use Rattle.analysis.specs.Call.{row_at}
 use Rattle.analysis.specs.inner.Demand.{CrowdedFrom, FirstCrowded, Demand}
@@ -65,7 +66,7 @@ module _ (l f : List ℕ) (g : Log) (fm : Formula) (words : ℕ) (acc : Accepted
         number = d.all;
       }
 
-  to-runs : (lent after : List ℕ) (r : Outcome) → ThirdOfRows l f words fm (length g.events) lent after r
+  to-runs : (lent after : List ℕ) (r : Result Unit Refusal) → ThirdOfRows l f words fm (length g.events) lent after r
       → Demand g fm (slots_of words) lent (record { outcome = r; rows = after })
   to-runs lent after r t =
       record {
@@ -85,7 +86,7 @@ rows-meet l f g fm work rows acc h k =
 
 -- No other rows and no other answer do.
 pub rows-only : (l f : List ℕ) (g : Log) (fm : Formula) (work rows : List ℕ) → Accepted l f g fm → 192 ≤ length work → 12 * length g.events ≤ length rows
-    → (after : List ℕ) (r : Outcome)
+    → (after : List ℕ) (r : Result Unit Refusal)
     → ThirdOfRows l f (length work) fm (length g.events) rows after r → (r ≡ (analysis l f (length work) rows).outcome)
     × (after ≡ (analysis l f (length work) rows).rows)
 rows-only l f g fm work rows acc h k after r t =

@@ -2,6 +2,7 @@
 use Prim.Native.Nat.{ℕ, ◌+◌, ◌≤◌, ◌<◌}
 use native.Mathlib.Omega.{arith}
 use native.Mathlib.Nat.{lt_trans}
+use Rattle.std.specs.Prelude.{Result, Ok, Err, IsOkAnd}
 use mathlib.Core.Path.{◌≡◌, refl, sym, ◌∙◌}
 use mathlib.Core.Logic.Iff
 use mathlib.Core.Logic.{◌↔◌, inl, inr}
@@ -18,8 +19,9 @@ use Rattle.runs.specs.inner.Demand as Runs
 use Rattle.machine.specs.Firing.{is_held}
 use Rattle.machine.specs.Machine.{machine, accepting}
 use Rattle.search.specs.declared.Verdict.TheVariants as SearchIs
+use Rattle.refusal.specs.declared.Refusal.{Refusal}
 use Rattle.search.specs.declared.SearchAnswer.{SearchAnswer}
-use Rattle.search.specs.Search.{slots_of}
+use Rattle.search.specs.Search.{slots_of, Says, tells}
 use Rattle.search.specs.inner.Demand as Search
 use Rattle.search.proofs.Premises.{Accepted, accepted-premises}
 use Rattle.search.proofs.Demand.{met, third-demand}
@@ -27,9 +29,14 @@ use Rattle.analysis.specs.inner.Demand as ByRuns
 use Rattle.analysis.proofs.Last.{last-is}
 use Rattle.demands.specs.Demands as Page
 
+-- what holds of an answer holds of what it tells
+told_so : (P : SearchAnswer → Type 0) (r : Result SearchAnswer Refusal) → IsOkAnd r P → P (tells r)
+told_so P (Ok a) h = h
+told_so P (Err why) h = absurd h
+
 module _ (l f : List ℕ) (g : Log) (fm : Formula) (words : ℕ) (acc : Accepted l f g fm) (enough : 192 ≤ words) where
   -- the answer from start i, and its least run
-  abbrev answer : ℕ → SearchAnswer
+  abbrev answer : ℕ → Result SearchAnswer Refusal
   answer i = Page.answer l f words i
 
   abbrev Least : ℕ → Bool → Type 0
@@ -65,10 +72,10 @@ module _ (l f : List ℕ) (g : Log) (fm : Formula) (words : ℕ) (acc : Accepted
         go c (full n d) = record { place = n; says = (told.crowded n).1 d }
 
     -- no run, where the start is not crowded
-    none-same : (ByRuns.CrowdedFrom g fm (slots_of words) i → ⊥) → ((answer i).verdict ≡ SearchIs.Absent) ↔ ByRuns.NoRun g fm (slots_of words) i
+    none-same : (ByRuns.CrowdedFrom g fm (slots_of words) i → ⊥) → Says (answer i) SearchIs.Absent ↔ ByRuns.NoRun g fm (slots_of words) i
     none-same roomy = (λ e. (told.none.0 e).absent.none, λ z. go z kind)
       where
-        go : ByRuns.NoRun g fm (slots_of words) i → Kind i → (answer i).verdict ≡ SearchIs.Absent
+        go : ByRuns.NoRun g fm (slots_of words) i → Kind i → Says (answer i) SearchIs.Absent
         go z (run b n) = absurd (z n.trail n.config n.named.run)
         go z (nothing n) = told.none.1 n
         go z (full n d) = absurd (roomy (record { event = n; crowded = d.here }))
@@ -84,8 +91,8 @@ module _ (l f : List ℕ) (g : Log) (fm : Formula) (words : ℕ) (acc : Accepted
 
     module _ (b : Bool) (n : Least i b) where
       -- what the answer carries of it, and its last event
-      carried : Search.Carries g fm (slots_of words) i (answer i) n.config n.trail n.width
-      carried = told.run n.config n.trail n.width n.named
+      carried : Search.Carries g fm (slots_of words) i (tells (answer i)) n.config n.trail n.width
+      carried = told_so (λ a. Search.Carries g fm (slots_of words) i a n.config n.trail n.width) (answer i) (told.run n.config n.trail n.width n.named)
 
       last-same : Page.last_event l f words i ≡ last n.trail
       last-same = rw (carried.events, carried.steps) (last-is n.trail n.named.run.path.most)
@@ -144,13 +151,13 @@ module _ (l f : List ℕ) (g : Log) (fm : Formula) (words : ℕ) (acc : Accepted
                   v t. same_out j i k h o.accepts b m n v (o.tied v t);
             }
 
-    alert-same : (((answer i).verdict ≡ SearchIs.Accept) × (Page.Overlapped l f words fm i → ⊥)) ↔ ByRuns.Alert g fm (slots_of words) i
+    alert-same : (Says (answer i) SearchIs.Accept × (Page.Overlapped l f words fm i → ⊥)) ↔ ByRuns.Alert g fm (slots_of words) i
     alert-same = (
       λ a. let n = (told i h).accept.0 a.0 in record { run = n; otherwise = λ o. a.1 ((overlap-same true n).1 o) },
       λ a. ((told i h).accept.1 a.run, λ o. a.otherwise ((overlap-same true a.run).0 o)),
     )
 
-    subsumed-same : (((answer i).verdict ≡ SearchIs.Accept) × Page.Overlapped l f words fm i) ↔ ByRuns.Subsumed g fm (slots_of words) i
+    subsumed-same : (Says (answer i) SearchIs.Accept × Page.Overlapped l f words fm i) ↔ ByRuns.Subsumed g fm (slots_of words) i
     subsumed-same = (
       λ a. let n = (told i h).accept.0 a.0 in record { run = n; by = (overlap-same true n).0 a.1 },
       λ a. ((told i h).accept.1 a.run, (overlap-same true a.run).1 a.by),
@@ -158,10 +165,10 @@ module _ (l f : List ℕ) (g : Log) (fm : Formula) (words : ℕ) (acc : Accepted
 
     -- the words of a row behind its verdict
     value_out : (r : List ℕ) (b : Bool) (n : Least i b) → ByRuns.Holds r n.config n.trail → (v : ℕ) → v < 8
-        → get_or r (4 + v) 0 ≡ get_or (answer i).values v 0
+        → get_or r (4 + v) 0 ≡ get_or (tells (answer i)).values v 0
     value_out r b n x v k = go (is_held n.config v) refl
       where
-        go : (p : Bool) → is_held n.config v ≡ p → get_or r (4 + v) 0 ≡ get_or (answer i).values v 0
+        go : (p : Bool) → is_held n.config v ≡ p → get_or r (4 + v) 0 ≡ get_or (tells (answer i)).values v 0
         go true p = x.values v k p ∙ sym ((carried i h b n).values v p)
         go false p = x.unheld v k p ∙ sym ((carried i h b n).unused v p)
 

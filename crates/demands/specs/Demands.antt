@@ -1,12 +1,10 @@
 -- The three demands, over what the public entries answer and leave, in the words of the paper. proofs/Demands.antt has a theorem for each:
 -- whatever meets the contract of `read_log`, `read_formula`, `search` or `analyse` meets the demand, for all bytes, starts and lent words.
-use Rattle.std.specs.Prelude.{ℕ, suc, ◌+◌, ◌-◌, ◌*◌, ◌/◌, ◌%◌, ◌^◌, ◌≤◌, ◌<◌, ◌≡◌, ◌↔◌, ◌⊎◌, true, false, cond, length, get_or, drop, replicate}
+use Rattle.std.specs.Prelude.{ℕ, suc, ◌+◌, ◌-◌, ◌*◌, ◌/◌, ◌%◌, ◌^◌, ◌≤◌, ◌<◌, ◌≡◌, ◌↔◌, ◌⊎◌, true, false, cond, length, get_or, drop, replicate, Result, Ok, Err, IsOk, IsOkAnd, IfOk}
 use mathlib.Core.List.{List, [], ◌∷◌, ◌++◌, flat_map, map}
 use Rattle.base.specs.Lists.{All, pad}
 use Rattle.refusal.specs.declared.Refusal.{Refusal}
 use Rattle.refusal.specs.declared.Refusal.TheVariants.{Outside, Short, Crowded, AbsentState}
-use Rattle.refusal.specs.declared.Acceptance.{Acceptance}
-use Rattle.refusal.specs.declared.Acceptance.TheVariants as FileIs
 use Rattle.refusal.specs.Refusals.{report_of, NotCrowded}
 use Rattle.event_log.specs.declared.LogReading.{LogReading}
 use Rattle.event_log.specs.Log.{Event, Log, event_at, stretch_at}
@@ -32,15 +30,13 @@ use Rattle.machine.specs.Configuration.{Config}
 use Rattle.machine.specs.Machine.{machine, accepting}
 use Rattle.search.specs.declared.Verdict.TheVariants as SearchIs
 use Rattle.search.specs.declared.SearchAnswer.{SearchAnswer}
-use Rattle.search.specs.Search.{without, refusal, search_answer}
+use Rattle.search.specs.Search.{without, refusal, Says, tells, search_answer}
 use Rattle.search.specs.Call.{Searched}
-use Rattle.analysis.specs.declared.Outcome.{Outcome}
-use Rattle.analysis.specs.declared.Outcome.TheVariants as AnalysisIs
 use Rattle.analysis.specs.Call.{Analyses, row_at}
 use Rattle.exports.specs.declared.Refused.{Refused}
 use Rattle.exports.specs.declared.LogRead.{LogRead}
 use Rattle.exports.specs.declared.Found.{Found}
-use Rattle.exports.specs.Exports.{exported_log, exported_formula, exported_search, outcome_refusal}
+use Rattle.exports.specs.Exports.{exported_log, exported_search, refusal_in}
 
 -- THE FILES
 
@@ -63,71 +59,68 @@ pub record Told (file : ℕ) (allowed : List ℕ) (size : ℕ) (why : Refusal) :
   pub names_place : (report_of why).place ≤ size
 
 -- a file with so many bytes is accepted, or refused with file, one of the numbers allowed, and place
-pub data FirstOfFile (file : ℕ) (allowed : List ℕ) (size : ℕ) (a : Acceptance) : Type 0 where
-  accepted : a ≡ FileIs.Accepted → FirstOfFile file allowed size a
-  refused : (why : Refusal) → a ≡ FileIs.Refused why → Told file allowed size why → FirstOfFile file allowed size a
+pub data FirstOfFile (A : Type 0) (file : ℕ) (allowed : List ℕ) (size : ℕ) (r : Result A Refusal) : Type 0 where
+  accepted : (a : A) → r ≡ Ok a → FirstOfFile A file allowed size r
+  refused : (why : Refusal) → r ≡ Err why → Told file allowed size why → FirstOfFile A file allowed size r
 
 -- a log: file 1, a number from 1 to 6
-abbrev pub FirstOfLog : List ℕ → LogReading → Type 0
-FirstOfLog l r = FirstOfFile 1 (1 ∷ 2 ∷ 3 ∷ 4 ∷ 5 ∷ 6 ∷ []) (length l) r.acceptance
+abbrev pub FirstOfLog : List ℕ → Result LogReading Refusal → Type 0
+FirstOfLog l r = FirstOfFile LogReading 1 (1 ∷ 2 ∷ 3 ∷ 4 ∷ 5 ∷ 6 ∷ []) (length l) r
 
 -- a formula: file 2, a number from 1 to 5, 7, 8, 12 or 13
-abbrev pub FirstOfFormula : List ℕ → FormulaReading → Type 0
-FirstOfFormula f r = FirstOfFile 2 (1 ∷ 2 ∷ 3 ∷ 4 ∷ 5 ∷ 7 ∷ 8 ∷ 12 ∷ 13 ∷ []) (length f) r.acceptance
+abbrev pub FirstOfFormula : List ℕ → Result FormulaReading Refusal → Type 0
+FirstOfFormula f r = FirstOfFile FormulaReading 2 (1 ∷ 2 ∷ 3 ∷ 4 ∷ 5 ∷ 7 ∷ 8 ∷ 12 ∷ 13 ∷ []) (length f) r
 
 -- 13 'absent state', "A STEP or COUNT naming a state that the file doesn't declare gets its own number"
-pub record SaysAbsentState (a : Acceptance) : Type 0 where
+pub record SaysAbsentState (r : Result FormulaReading Refusal) : Type 0 where
   pub place : ℕ
-  pub says : a ≡ FileIs.Refused (AbsentState place)
+  pub says : r ≡ Err (AbsentState place)
 
 -- the file is well formed up to END, nothing is left over, and some STEP or COUNT names a state that it does not declare
 pub record HasAbsentState (fields : ℕ) (f : List ℕ) : Type 0 where
   pub place : ℕ
   pub is : AbsentAt fields f place
 
-pub record AbsentOfFormula (f : List ℕ) (fields : ℕ) (r : FormulaReading) : Type 0 where
-  pub exactly : SaysAbsentState r.acceptance ↔ HasAbsentState fields f
+pub record AbsentOfFormula (f : List ℕ) (fields : ℕ) (r : Result FormulaReading Refusal) : Type 0 where
+  pub exactly : SaysAbsentState r ↔ HasAbsentState fields f
   -- "its place is still that command", the first of them
-  pub there : (p : ℕ) → r.acceptance ≡ FileIs.Refused (AbsentState p) → AbsentAt fields f p
-  pub first : (p q : ℕ) → r.acceptance ≡ FileIs.Refused (AbsentState p) → AbsentAt fields f q → p ≤ q
+  pub there : (p : ℕ) → r ≡ Err (AbsentState p) → AbsentAt fields f p
+  pub first : (p q : ℕ) → r ≡ Err (AbsentState p) → AbsentAt fields f q → p ≤ q
 
 -- both readers accept; a and b are their answers
 pub record Accepted (l f : List ℕ) (a : LogReading) (b : FormulaReading) : Type 0 where
-  pub log : ReadsLog l a
-  pub log_accepted : a.acceptance ≡ FileIs.Accepted
-  pub formula : ReadsFormula f a.fields b
-  pub formula_accepted : b.acceptance ≡ FileIs.Accepted
+  pub log : ReadsLog l (Ok a)
+  pub formula : ReadsFormula f a.fields (Ok b)
 
 -- what a call's two readers refuse it with: "A call checks the log, the formula, .."
 pub data FileRefused (l f : List ℕ) (why : Refusal) : Type 0 where
-  by_log : (a : LogReading) → ReadsLog l a → a.acceptance ≡ FileIs.Refused why → FileRefused l f why
-  by_formula : (a : LogReading) (b : FormulaReading) → ReadsLog l a → a.acceptance ≡ FileIs.Accepted → ReadsFormula f a.fields b
-      → b.acceptance ≡ FileIs.Refused why → FileRefused l f why
+  by_log : ReadsLog l (Err why) → FileRefused l f why
+  by_formula : (a : LogReading) → ReadsLog l (Ok a) → ReadsFormula f a.fields (Err why) → FileRefused l f why
 
 -- a search: "A call checks the log, the formula, 9 (search only), 10 for work words, .., then runs"
-pub record FirstOfSearch (l f : List ℕ) (start : ℕ) (work after : List ℕ) (r : SearchAnswer) : Type 0 where
+pub record FirstOfSearch (l f : List ℕ) (start : ℕ) (work after : List ℕ) (r : Result SearchAnswer Refusal) : Type 0 where
   pub file : (why : Refusal) → FileRefused l f why → r ≡ refusal why
   pub outside : (a : LogReading) (b : FormulaReading) → Accepted l f a b → a.events ≤ start → r ≡ refusal (Outside start)
   pub short : (a : LogReading) (b : FormulaReading) → Accepted l f a b → start < a.events → length work < 192 → r ≡ refusal (Short 192)
   pub runs : (a : LogReading) (b : FormulaReading) → Accepted l f a b → start < a.events → 192 ≤ length work → (why : Refusal)
-      → r.verdict ≡ SearchIs.Refused why → NotCrowded why → ⊥
+      → r ≡ Err why → NotCrowded why → ⊥
   -- refused, but not with crowded, leaves every lent word alone; no call makes them more or fewer
-  pub untouched : (why : Refusal) → r.verdict ≡ SearchIs.Refused why → NotCrowded why → after ≡ work
+  pub untouched : (why : Refusal) → r ≡ Err why → NotCrowded why → after ≡ work
   pub number : length after ≡ length work
 
 -- an analysis: "A call checks the log, the formula, .. 10 for work words, 10 for rows (analysis only), then runs"
-pub record FirstOfAnalysis (l f work work-after rows rows-after : List ℕ) (r : Outcome) : Type 0 where
-  pub file : (why : Refusal) → FileRefused l f why → r ≡ AnalysisIs.Refused why
-  pub short_work : (a : LogReading) (b : FormulaReading) → Accepted l f a b → length work < 192 → r ≡ AnalysisIs.Refused (Short 192)
+pub record FirstOfAnalysis (l f work work-after rows rows-after : List ℕ) (r : Result Unit Refusal) : Type 0 where
+  pub file : (why : Refusal) → FileRefused l f why → r ≡ Err why
+  pub short_work : (a : LogReading) (b : FormulaReading) → Accepted l f a b → length work < 192 → r ≡ Err (Short 192)
   pub short_rows : (a : LogReading) (b : FormulaReading) → Accepted l f a b → 192 ≤ length work → length rows < 12 * a.events
-      → r ≡ AnalysisIs.Refused (Short (12 * a.events))
+      → r ≡ Err (Short (12 * a.events))
   pub runs : (a : LogReading) (b : FormulaReading) → Accepted l f a b → 192 ≤ length work → 12 * a.events ≤ length rows → (why : Refusal)
-      → r ≡ AnalysisIs.Refused why → NotCrowded why → ⊥
+      → r ≡ Err why → NotCrowded why → ⊥
   -- refused, but not with crowded, leaves every lent word alone; no call makes them more or fewer
-  pub untouched : (why : Refusal) → r ≡ AnalysisIs.Refused why → NotCrowded why → (work-after ≡ work) × (rows-after ≡ rows)
+  pub untouched : (why : Refusal) → r ≡ Err why → NotCrowded why → (work-after ≡ work) × (rows-after ≡ rows)
   pub number : (length work-after ≡ length work) × (length rows-after ≡ length rows)
   -- crowded touches no word of the rows from that start on (the rows before it are the third demand's)
-  pub rest : (i : ℕ) → r ≡ AnalysisIs.Refused (Crowded i) → drop (12 * i) rows-after ≡ drop (12 * i) rows
+  pub rest : (i : ℕ) → r ≡ Err (Crowded i) → drop (12 * i) rows-after ≡ drop (12 * i) rows
 
 -- SECOND DEMAND: a reader accepts exactly when the file is the encoding of a correct log (formula), and reads it as that one; events count in
 -- recorded order.
@@ -153,34 +146,32 @@ pub record Recorded (l : List ℕ) (t : LogFile) (n : ℕ) : Type 0 where
   pub stands : l ≡ flat_map LogEncode.encode_field t.fields
       ++ (flat_map LogEncode.encode_entry before ++ (LogEncode.encode_entry (event sent) ++ behind))
 
-pub record SecondOfLog (l : List ℕ) (r : LogReading) : Type 0 where
-  pub accepts : (r.acceptance ≡ FileIs.Accepted) ↔ SomeLog l
+pub record SecondOfLog (l : List ℕ) (r : Result LogReading Refusal) : Type 0 where
+  pub accepts : IsOk r ↔ SomeLog l
   pub one : (t u : LogFile) → IsLog l t → IsLog l u → t ≡ u
-  pub fields : (t : LogFile) → IsLog l t → r.fields ≡ length t.fields
-  pub rising : (t : LogFile) → IsLog l t → r.rises ≡ pad 8 false (map rises t.fields)
-  pub events : (t : LogFile) → IsLog l t → r.events ≡ length (log_of t).events
+  pub fields : (t : LogFile) → IsLog l t → IsOkAnd r (λ a. a.fields ≡ length t.fields)
+  pub rising : (t : LogFile) → IsLog l t → IsOkAnd r (λ a. a.rises ≡ pad 8 false (map rises t.fields))
+  pub events : (t : LogFile) → IsLog l t → IsOkAnd r (λ a. a.events ≡ length (log_of t).events)
   -- where each event begins
-  pub places : (t : LogFile) → IsLog l t → (n : ℕ) → n < length (log_of t).events → get_or r.places n 0 ≡ event_place t n
+  pub places : (t : LogFile) → IsLog l t → (n : ℕ) → n < length (log_of t).events → IsOkAnd r (λ a. get_or a.places n 0 ≡ event_place t n)
   -- "Nothing is ever sorted"
   pub recorded : (t : LogFile) → IsLog l t → (n : ℕ) → n < length (log_of t).events → Recorded l t n
 
-pub record SecondOfFormula (f : List ℕ) (fields : ℕ) (r : FormulaReading) : Type 0 where
-  pub accepts : (r.acceptance ≡ FileIs.Accepted) ↔ SomeFormula fields f
+pub record SecondOfFormula (f : List ℕ) (fields : ℕ) (r : Result FormulaReading Refusal) : Type 0 where
+  pub accepts : IsOk r ↔ SomeFormula fields f
   pub one : (g h : Formula) → IsFormula fields f g → IsFormula fields f h → g ≡ h
-  pub states : (fm : Formula) → IsFormula fields f fm → r.states ≡ length fm.states
-  pub state_kinds : (fm : Formula) → IsFormula fields f fm → r.kinds ≡ kinds_of fm.states
-  pub tied : (fm : Formula) → IsFormula fields f fm → r.tied ≡ tied_mask fm
+  pub states : (fm : Formula) → IsFormula fields f fm → IsOkAnd r (λ a. a.states ≡ length fm.states)
+  pub state_kinds : (fm : Formula) → IsFormula fields f fm → IsOkAnd r (λ a. a.kinds ≡ kinds_of fm.states)
+  pub tied : (fm : Formula) → IsFormula fields f fm → IsOkAnd r (λ a. a.tied ≡ tied_mask fm)
 
--- where its steps begin: "a table proved to give, for every state and step number, the offset of that STEP or that there is none"
-pub record StepsOfFormula (f : List ℕ) (fields : ℕ) (r : FormulaReading) : Type 0 where
+-- where its steps begin (a refused file has no table): "a table proved to give, for every state and step number, the offset of that STEP or that there is none"
+pub record StepsOfFormula (f : List ℕ) (fields : ℕ) (r : Result FormulaReading Refusal) : Type 0 where
   -- step k of state s has entry s * 8 + k: the offset of that STEP, or 0, which is no STEP's offset, where there is none
-  pub entries : length r.table ≡ 128
-  pub located : (fm : Formula) → IsFormula fields f fm → (s k : ℕ) → s < 16 → k < 8 → Located fm s k (get_or r.table (s * 8 + k) 0)
+  pub entries : IfOk r (λ a. length a.table ≡ 128)
+  pub located : (fm : Formula) → IsFormula fields f fm → (s k : ℕ) → s < 16 → k < 8 → IsOkAnd r (λ a. Located fm s k (get_or a.table (s * 8 + k) 0))
   -- every STEP of the file has its entry, and at the offset stands its byte
   pub entered : (fm : Formula) → IsFormula fields f fm → (s k p : ℕ) → StepBegins fm s k p
-      → (s < 16) × (k < 8) × (get_or r.table (s * 8 + k) 0 ≡ p) × (get_or f p 0 ≡ 0x11)
-  -- of a refused file no step is told
-  pub refused : (why : Refusal) → r.acceptance ≡ FileIs.Refused why → r.table ≡ replicate 128 0
+      → IsOkAnd r (λ a. (s < 16) × (k < 8) × (get_or a.table (s * 8 + k) 0 ≡ p) × (get_or f p 0 ≡ 0x11))
 
 -- the events that a search names begin with the start and rise by their number, whatever their values are
 pub record SecondOfSearch (start : ℕ) (r : SearchAnswer) : Type 0 where
@@ -188,9 +179,9 @@ pub record SecondOfSearch (start : ℕ) (r : SearchAnswer) : Type 0 where
   pub rise : (k : ℕ) → suc k < r.steps → get_or r.events k 0 < get_or r.events (suc k) 0
 
 -- the search's answer is 'crowded'
-pub record SaysCrowded (s : SearchAnswer) : Type 0 where
+pub record SaysCrowded (s : Result SearchAnswer Refusal) : Type 0 where
   pub place : ℕ
-  pub says : s.verdict ≡ SearchIs.Refused (Crowded place)
+  pub says : s ≡ Err (Crowded place)
 
 -- THIRD DEMAND, SEARCH: "at any event of an accepted log, with one seat or more". A log, a formula, so many seats, a start below the event
 -- count. Runs (`Run`) and what waits (`Count`) are of all events of the log: "No run has events on both sides of a mark, and no configuration waits
@@ -228,41 +219,43 @@ module _ (g : Log) (fm : Formula) (seats start : ℕ) where
     pub is : Count (machine g fm) start n count
     pub only : (k : ℕ) → Count (machine g fm) start n k → k ≡ count
 
-  pub record ThirdOfSearch (s : SearchAnswer) : Type 0 where
+  pub record ThirdOfSearch (s : Result SearchAnswer Refusal) : Type 0 where
     -- every event from the start on has exactly one count, so that no clause below is empty
     pub counted : (n : ℕ) → start ≤ n → n < length g.events → Counted n
-    -- "a search answers 'crowded' exactly when .."; its place is the first such event, and nothing else is told
+    -- "a search answers 'crowded' exactly when .."; its place is the first such event, and a refusal is all that is told
     pub crowded : SaysCrowded s ↔ SomeCrowded
-    pub first : (n : ℕ) → s.verdict ≡ SearchIs.Refused (Crowded n) → Runs.FirstCrowded (machine g fm) seats start n
-    pub alone : (n : ℕ) → s.verdict ≡ SearchIs.Refused (Crowded n) → s ≡ refusal (Crowded n)
+    pub first : (n : ℕ) → s ≡ Err (Crowded n) → Runs.FirstCrowded (machine g fm) seats start n
     -- "otherwise 'none' exactly when there is no run of at most 32 steps"
-    pub none : (SomeCrowded → ⊥) → (s.verdict ≡ SearchIs.Absent) ↔ NoRun
+    pub none : (SomeCrowded → ⊥) → Says s SearchIs.Absent ↔ NoRun
     -- then nothing is named, and the width is the largest count waiting after any event from the start
-    pub nothing : s.verdict ≡ SearchIs.Absent → (s ≡ without SearchIs.Absent s.width) × Runs.Peak (machine g fm) start (length g.events) s.width
+    pub nothing : Says s SearchIs.Absent → IsOkAnd s (λ a. (a ≡ without a.width) × Runs.Peak (machine g fm) start (length g.events) a.width)
     -- "otherwise it names a run"
-    pub named : (SomeCrowded → ⊥) → (NoRun → ⊥) → Names s
+    pub named : (SomeCrowded → ⊥) → (NoRun → ⊥) → IsOkAnd s Names
     -- the width is "at most the seats"
-    pub within : s.width ≤ seats
+    pub within : IfOk s (λ a. a.width ≤ seats)
 
 -- THIRD DEMAND, ROWS: "rows are alert, subsumed, rejected, none exactly as defined", by the search's answer from each start with the same seats.
 -- The files and the number of work words.
 module _ (l f : List ℕ) (words : ℕ) where
-  -- the search's answer from start i
-  abbrev pub answer : ℕ → SearchAnswer
+  -- the search's answer from start i, and what it tells
+  abbrev pub answer : ℕ → Result SearchAnswer Refusal
   answer i = search_answer l f i words
+
+  abbrev pub told : ℕ → SearchAnswer
+  told i = tells (answer i)
 
   -- it names a run, accepting or rejecting; the run's last event
   abbrev pub NamesRun : ℕ → Type 0
-  NamesRun i = ((answer i).verdict ≡ SearchIs.Accept) ⊎ ((answer i).verdict ≡ SearchIs.Reject)
+  NamesRun i = Says (answer i) SearchIs.Accept ⊎ Says (answer i) SearchIs.Reject
 
   abbrev pub last_event : ℕ → ℕ
-  last_event i = get_or (answer i).events ((answer i).steps - 1) 0
+  last_event i = get_or (told i).events ((told i).steps - 1) 0
 
   -- "every tied variable is held by both with one value" (the same tied values), of one variable v: the runs from i, the earlier start, and j
   pub record SameValue (i j v : ℕ) : Type 0 where
-    pub earlier_holds : get_or (answer i).held v false ≡ true
-    pub this_holds : get_or (answer j).held v false ≡ true
-    pub one_value : get_or (answer i).values v 0 ≡ get_or (answer j).values v 0
+    pub earlier_holds : get_or (told i).held v false ≡ true
+    pub this_holds : get_or (told j).held v false ≡ true
+    pub one_value : get_or (told i).values v 0 ≡ get_or (told j).values v 0
 
   -- .. and the formula that f holds
   module _ (fm : Formula) where
@@ -278,52 +271,52 @@ module _ (l f : List ℕ) (words : ℕ) where
     -- "verdict (0 none, 1 alert, 2 subsumed, 3 rejected)": what the row r of start i says
     pub record RowSays (i : ℕ) (r : List ℕ) : Type 0 where
       pub twelve : length r ≡ 12
-      pub none : (get_or r 0 0 ≡ 0) ↔ ((answer i).verdict ≡ SearchIs.Absent)
+      pub none : (get_or r 0 0 ≡ 0) ↔ Says (answer i) SearchIs.Absent
       -- "An accepting run is subsumed if ..; otherwise it is an alert"
-      pub alert : (get_or r 0 0 ≡ 1) ↔ (((answer i).verdict ≡ SearchIs.Accept) × (Overlapped i → ⊥))
-      pub subsumed : (get_or r 0 0 ≡ 2) ↔ (((answer i).verdict ≡ SearchIs.Accept) × Overlapped i)
+      pub alert : (get_or r 0 0 ≡ 1) ↔ (Says (answer i) SearchIs.Accept × (Overlapped i → ⊥))
+      pub subsumed : (get_or r 0 0 ≡ 2) ↔ (Says (answer i) SearchIs.Accept × Overlapped i)
       -- "A rejecting one is rejected"
-      pub rejected : (get_or r 0 0 ≡ 3) ↔ ((answer i).verdict ≡ SearchIs.Reject)
+      pub rejected : (get_or r 0 0 ≡ 3) ↔ Says (answer i) SearchIs.Reject
       -- "A none row is all 0"
-      pub blank : (answer i).verdict ≡ SearchIs.Absent → r ≡ replicate 12 0
+      pub blank : Says (answer i) SearchIs.Absent → r ≡ replicate 12 0
       -- "Any other row holds its start's named run, the least": "last event, steps, a mask with bit v set if variable v is held, eight values (0
       -- if not held)"
       pub names_last_event : NamesRun i → get_or r 1 0 ≡ last_event i
-      pub steps : NamesRun i → get_or r 2 0 ≡ (answer i).steps
-      pub mask : NamesRun i → (v : ℕ) → v < 8 → get_or r 3 0 / 2 ^ v % 2 ≡ cond (get_or (answer i).held v false) 1 0
+      pub steps : NamesRun i → get_or r 2 0 ≡ (told i).steps
+      pub mask : NamesRun i → (v : ℕ) → v < 8 → get_or r 3 0 / 2 ^ v % 2 ≡ cond (get_or (told i).held v false) 1 0
       pub eight_bits : get_or r 3 0 < 256
-      pub values : NamesRun i → (v : ℕ) → v < 8 → get_or r (4 + v) 0 ≡ get_or (answer i).values v 0
+      pub values : NamesRun i → (v : ℕ) → v < 8 → get_or r (4 + v) 0 ≡ get_or (told i).values v 0
 
     -- an analysis of so many events, with these row words before and after it
-    pub record ThirdOfRows (count : ℕ) (rows after : List ℕ) (r : Outcome) : Type 0 where
+    pub record ThirdOfRows (count : ℕ) (rows after : List ℕ) (r : Result Unit Refusal) : Type 0 where
       -- every start is searched in order: refused with 11 exactly at the first that is crowded, done exactly where none is
-      pub crowded : (i : ℕ) → (r ≡ AnalysisIs.Refused (Crowded i)) ↔ ((i < count) × SaysCrowded (answer i) × ((j : ℕ) → j < i → SaysCrowded (answer j) → ⊥))
-      pub done : (r ≡ AnalysisIs.Done) ↔ ((i : ℕ) → i < count → SaysCrowded (answer i) → ⊥)
+      pub crowded : (i : ℕ) → (r ≡ Err (Crowded i)) ↔ ((i < count) × SaysCrowded (answer i) × ((j : ℕ) → j < i → SaysCrowded (answer j) → ⊥))
+      pub done : (r ≡ Ok tt) ↔ ((i : ℕ) → i < count → SaysCrowded (answer i) → ⊥)
       -- a row for every start, "On 11 the rows before that start are written"
       pub written : (i : ℕ) → i < count → ((j : ℕ) → j ≤ i → SaysCrowded (answer j) → ⊥) → RowSays i (row_at after i)
       -- "and the rest is untouched"
-      pub rest : (i : ℕ) → r ≡ AnalysisIs.Refused (Crowded i) → drop (12 * i) after ≡ drop (12 * i) rows
+      pub rest : (i : ℕ) → r ≡ Err (Crowded i) → drop (12 * i) after ≡ drop (12 * i) rows
       -- "Rows need 12 words an event; further words stay untouched"
       pub further : drop (12 * count) after ≡ drop (12 * count) rows
       pub number : length after ≡ length rows
 
 -- THE STATIC LIBRARY: each function hands on, as numbers, an answer that meets the entry's contract, and so the demands.
 pub record HandsOnLog (l : List ℕ) (r : LogRead) : Type 0 where
-  pub reading : LogReading
+  pub reading : Result LogReading Refusal
   pub contract : ReadsLog l reading
   pub numbers_are : r ≡ exported_log reading
 
 pub record HandsOnFormula (f : List ℕ) (fields : ℕ) (r : Refused) : Type 0 where
-  pub reading : FormulaReading
+  pub reading : Result FormulaReading Refusal
   pub contract : ReadsFormula f fields reading
-  pub numbers_are : r ≡ exported_formula reading
+  pub numbers_are : r ≡ refusal_in reading
 
 pub record HandsOnSearch (l f : List ℕ) (start : ℕ) (work after : List ℕ) (r : Found) : Type 0 where
-  pub found : SearchAnswer
+  pub found : Result SearchAnswer Refusal
   pub contract : Searched l f start work after found
   pub numbers_are : r ≡ exported_search found
 
 pub record HandsOnAnalysis (l f work work-after rows rows-after : List ℕ) (r : Refused) : Type 0 where
-  pub outcome : Outcome
+  pub outcome : Result Unit Refusal
   pub contract : Analyses l f work work-after rows rows-after outcome
-  pub numbers_are : r ≡ outcome_refusal outcome
+  pub numbers_are : r ≡ refusal_in outcome

@@ -3,10 +3,11 @@
 #![tactic(auto)]
 
 ghost use Rattle.std.specs.Prelude.{◌≡◌};
-ghost use Rattle.exports.specs.Exports.{named, nothing, file_refusal, search_refusal, verdict_number, outcome_refusal};
+ghost use Rattle.exports.specs.Exports.{named, nothing, verdict_number};
 ghost use Rattle.exports.specs.Exports.{ExportsLog, ExportsFormula, ExportsSearch, ExportsAnalysis};
 
-use refusal::{Acceptance, Refusal};
+use refusal::{Refusal, Report};
+use search::Verdict;
 
 // A refusal's file, number and place; number 0 where nothing is refused.
 #[repr(C)]
@@ -40,18 +41,6 @@ pub struct Found {
     pub width: usize,
 }
 
-// A refusal's three numbers.
-fn three_of(r: Refusal) -> Refused
-    ensures { result ≡ named r }
-{
-    let report = refusal::report_of(r);
-    Refused {
-        file: report.file,
-        number: report.number,
-        place: report.place,
-    }
-}
-
 // Nothing refused.
 fn none() -> Refused
     ensures { result ≡ nothing }
@@ -63,47 +52,32 @@ fn none() -> Refused
     }
 }
 
-// The refusal of a file, if it has one.
-fn file_refusal(a: Acceptance) -> Refused
-    ensures { result ≡ file_refusal a }
-{
-    match a {
-        Acceptance::Accepted => none(),
-        Acceptance::Refused(r) => three_of(r),
-    }
-}
+// A refusal's three numbers.
+impl From<Refusal> for Refused {
+    ghost from_gives = { λ r t. t ≡ named r };
 
-// The refusal in a search's verdict.
-fn search_refusal(v: search::Verdict) -> Refused
-    ensures { result ≡ search_refusal v }
-{
-    match v {
-        search::Verdict::Refused(r) => three_of(r),
-        search::Verdict::Absent => none(),
-        search::Verdict::Accept => none(),
-        search::Verdict::Reject => none(),
+    fn from(r: Refusal) -> Refused {
+        let Report {
+            file,
+            number,
+            place,
+        } = Report::from(r);
+        Refused {
+            file,
+            number,
+            place,
+        }
     }
 }
 
 // The number of a search's verdict.
-fn verdict_number(v: search::Verdict) -> usize
+fn verdict_number(v: Verdict) -> usize
     ensures { result ≡ verdict_number v }
 {
     match v {
-        search::Verdict::Refused(_why) => 0,
-        search::Verdict::Absent => 0,
-        search::Verdict::Accept => 1,
-        search::Verdict::Reject => 2,
-    }
-}
-
-// The refusal in an analysis' outcome.
-fn outcome_refusal(v: analysis::Outcome) -> Refused
-    ensures { result ≡ outcome_refusal v }
-{
-    match v {
-        analysis::Outcome::Done => none(),
-        analysis::Outcome::Refused(r) => three_of(r),
+        Verdict::Absent => 0,
+        Verdict::Accept => 1,
+        Verdict::Reject => 2,
     }
 }
 
@@ -112,12 +86,17 @@ fn outcome_refusal(v: analysis::Outcome) -> Refused
 pub extern "C" fn hikwallu_read_log(l: &[u8]) -> LogRead
     ensures { ExportsLog l.now result }
 {
-    let reading = event_log_code::read_log(l);
-    let acceptance = reading.acceptance;
-    LogRead {
-        refused: file_refusal(acceptance),
-        fields: reading.fields,
-        events: reading.events,
+    match event_log_code::read_log(l) {
+        Ok(log) => LogRead {
+            refused: none(),
+            fields: log.fields,
+            events: log.events,
+        },
+        Err(why) => LogRead {
+            refused: why.into(),
+            fields: 0,
+            events: 0,
+        },
     }
 }
 
@@ -126,9 +105,10 @@ pub extern "C" fn hikwallu_read_log(l: &[u8]) -> LogRead
 pub extern "C" fn hikwallu_read_formula(f: &[u8], fields: usize) -> Refused
     ensures { ExportsFormula f.now fields result }
 {
-    let reading = formula_code::read_formula(f, fields);
-    let acceptance = reading.acceptance;
-    file_refusal(acceptance)
+    match formula_code::read_formula(f, fields) {
+        Ok(_) => none(),
+        Err(why) => why.into(),
+    }
 }
 
 // Searches one start with the lent work words, which stay as they are where the call is refused before it runs.
@@ -136,21 +116,33 @@ pub extern "C" fn hikwallu_read_formula(f: &[u8], fields: usize) -> Refused
 pub extern "C" fn hikwallu_search(l: &[u8], f: &[u8], start: usize, work: &mut [u32]) -> Found
     ensures { ExportsSearch l.now f.now start work.old work.new result }
 {
-    let answer = search_code::search(l, f, start, work);
-    let verdict = answer.verdict;
-    let events = answer.events;
-    let numbers = answer.numbers;
-    let held = answer.held;
-    let values = answer.values;
-    Found {
-        refused: search_refusal(verdict),
-        verdict: verdict_number(verdict),
-        steps: answer.steps,
-        events,
-        numbers,
-        held,
-        values,
-        width: answer.width,
+    match search_code::search(l, f, start, work) {
+        Ok(answer) => {
+            let events = answer.events;
+            let numbers = answer.numbers;
+            let held = answer.held;
+            let values = answer.values;
+            Found {
+                refused: none(),
+                verdict: verdict_number(answer.verdict),
+                steps: answer.steps,
+                events,
+                numbers,
+                held,
+                values,
+                width: answer.width,
+            }
+        }
+        Err(why) => Found {
+            refused: why.into(),
+            verdict: 0,
+            steps: 0,
+            events: [0; 32],
+            numbers: [0; 32],
+            held: [false; 8],
+            values: [0; 8],
+            width: 0,
+        },
     }
 }
 
@@ -164,6 +156,8 @@ pub extern "C" fn hikwallu_analyse(
 ) -> Refused
     ensures { ExportsAnalysis l.now f.now work.old work.new rows.old rows.new result }
 {
-    let outcome = analysis_code::analyse(l, f, work, rows);
-    outcome_refusal(outcome)
+    match analysis_code::analyse(l, f, work, rows) {
+        Ok(()) => none(),
+        Err(why) => why.into(),
+    }
 }

@@ -44,6 +44,11 @@ only-crowded g fm (found c t w) why e h = cc
 only-crowded g fm (absent w) why e h = cc
 only-crowded g fm (crowded n) why e h = h n (cc)
 
+-- a run's end is not none
+pub ends-not-absent : (b : Bool) → cond b Accept Reject ≡ Absent → ⊥
+ends-not-absent true e = cc
+ends-not-absent false e = cc
+
 module _ (log : Log) (formula : Formula) (P : Premises log formula) (slots start : ℕ) (inside : start < length log.events) where
   -- the answer of the runs, and as the search gives it
   abbrev found-answer : Answer (machine log formula)
@@ -66,10 +71,6 @@ module _ (log : Log) (formula : Formula) (P : Premises log formula) (slots start
   verdict-crowded (found c t w) n d e = cc
   verdict-crowded (absent w) n d e = cc
   verdict-crowded (crowded m) n d e = let q : m ≡ n = cc in rw q at d
-
-  ends-not-absent : (b : Bool) → cond b Accept Reject ≡ Absent → ⊥
-  ends-not-absent true e = cc
-  ends-not-absent false e = cc
 
   same-end : (x y : Bool) → cond x Accept Reject ≡ cond y Accept Reject → x ≡ y
   same-end true true q = refl

@@ -34,9 +34,9 @@ abbrev pub Says : Result SearchAnswer Refusal → Verdict → Type 0
 Says r v = IsOkAnd r (λ a. a.verdict ≡ v)
 
 -- what an answer tells beside that; a refused one tells nothing
-abbrev pub told : Result SearchAnswer Refusal → SearchAnswer
-told (Ok a) = a
-told (Err r) = without 0
+abbrev pub tells : Result SearchAnswer Refusal → SearchAnswer
+tells (Ok a) = a
+tells (Err r) = without 0
 
 -- an answer that names a run: where it ends, its trail
 abbrev pub named : Formula → Config → Trail → ℕ → SearchAnswer

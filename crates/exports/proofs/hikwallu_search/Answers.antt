@@ -1,13 +1,16 @@
--- `exports::hikwallu_search` meets its contract: what the search answers.
-use Rattle.exports.proofs.Numbers.{by-search}
+-- `exports::hikwallu_search` meets its contract: beside a refusal every entry is 0.
+use Rattle.std.proofs.Common.{rules}
+use Rattle.base.specs.Lists.{pad}
+use Rattle.exports.proofs.Numbers.{by-answer}
 use Rattle.exports.proofs.hikwallu_search.Goals as goal
 
-pub returns : goal.returns
-returns c =
-    let r = c.search-answer in
+pub returns-in-Err : goal.returns-in-Err
+unfolding pad
+returns-in-Err c =
+    let r = c.in-Err.ensures in
     record {
-      answer = rw (c.search_refusal.ensures, c.verdict_number.ensures, r.ensures.answer);
-      untouched = rw c.search_refusal.ensures (by-search _ _ r.result.verdict r.ensures.untouched);
-      number = r.ensures.number;
-      within = r.ensures.within;
+      answer = rw (c.into.ensures, ← r.answer);
+      untouched = rw c.into.ensures (by-answer _ _ _ r.untouched);
+      number = r.number;
+      within = search rules;
     }

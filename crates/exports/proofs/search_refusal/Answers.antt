@@ -1,5 +1,0 @@
--- `exports::search_refusal` meets its contract: by cases.
-use Rattle.exports.proofs.search_refusal.Goals as goal
-
-pub returns-in-Refused : goal.returns-in-Refused
-returns-in-Refused c = rw (c.three_of.ensures, c.in-Refused.is)
