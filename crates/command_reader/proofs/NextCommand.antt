@@ -1,11 +1,12 @@
 -- The next command on bytes alone is the definition's.
-use Prim.Native.Nat.{ℕ, suc, ◌+◌, ◌-◌}
+use Prim.Native.Nat.{ℕ, suc, ◌+◌, ◌-◌, ◌<◌}
 use mathlib.Core.Path.{◌≡◌, refl, ap}
 use mathlib.Core.Bool.{Bool, true, false, cond, ◌&&◌}
 use mathlib.Core.List.{List, [], ◌∷◌}
 use Rattle.std.specs.Prelude.{Result, Ok, Err}
 use native.Mathlib.Numerals.{one-add}
-use borrow.Author.Tests.{ltb-true}
+use native.Mathlib.Omega.{arith}
+use borrow.Author.Tests.{ltb-true, ne_eqb}
 use lib.Dec.{ltb}
 use lib.ListN.{length, get_or}
 use Rattle.base.specs.Value.{value_at}
@@ -25,7 +26,7 @@ use Rattle.formula.specs.Read.{opcode, allowed, room, operator_of, kind_of, Expr
 use Rattle.formula.specs.Read.{is_list, guard_of, again, operands_of, next}
 use Rattle.expression_reader.specs.inner.Prefix.{shape}
 use Rattle.command_reader.specs.inner.Take.{command_shape, guard_noted, NextEnd, breaks, taken_end, next_shape, fixed_at, state_at, step_at, tied_at}
-use Rattle.command_reader.specs.inner.Take.{test_at, testv_at, bind_at, gather_at, guard_at, taken_at, next_at}
+use Rattle.command_reader.specs.inner.Take.{test_at, testv_at, bind_at, gather_at, guard_at, taken_at, begun, next_at}
 use Rattle.formula.proofs.Commands.{kind-back}
 use Rattle.expression_reader.proofs.Operands.{ltb-suc, suc-eqb}
 
@@ -101,3 +102,11 @@ next_is own at places fields s (b ∷ ops) =
     rw (suc-eqb (length ops))
     (tested st own at places (allowed s o) (room s o) (operands_of fields s.gathered at ops o) taken (Surplus InFormula at) (Foreign InFormula at)
     (taken_is st own at places s.gathered fields b ops o))
+
+-- the same where a command begins with a byte that names it
+pub next_op : (own : List Bool) (at : ℕ) (places : List ℕ) (fields : ℕ) (s : Summary) (bs : List ℕ) (op : Opcode) (b : ℕ)
+    → (0 < length bs) × ((d : ℕ) → b ≡ get_or bs 0 d) → op ≡ opcode b
+    → next_shape (s.states - 1) own at places (next fields s at bs) ≡ begun s own fields bs at places op
+unfolding next_at
+next_op own at places fields s bs op b h e =
+    rw (next_is own at places fields s bs, ne_eqb (length bs) 0 (λ z. omega (arith, h.0)), ← (h.1 0), ← e)

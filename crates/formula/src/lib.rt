@@ -33,6 +33,7 @@ pub enum Opcode {
 
 impl From<u8> for Opcode {
     ghost use Rattle.formula.specs.Read.{opcode};
+
     ghost from_gives = { λ b op. op ≡ opcode b };
 
     // The command that a byte names.

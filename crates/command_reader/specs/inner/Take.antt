@@ -109,10 +109,12 @@ taken_at s own seen fields bs at places tied-op = taken_end (tied_at bs at) plac
 taken_at s own seen fields bs at places gather-op = taken_end (gather_at seen bs at fields) places
 taken_at s own seen fields bs at places other-op = breaks (Foreign InFormula at)
 
--- the command at `at`, where bs begins, in a step of the last state that binds the variables marked
+-- the command at `at`, where bs begins, by what its byte names, in a step of the last state that binds the variables marked
+abbrev pub begun : Summary → List Bool → ℕ → List ℕ → ℕ → List ℕ → Opcode → NextEnd
+begun s own fields bs at places op =
+    cond (allowed s op) (cond (room s op) (taken_at (s.states - 1) own s.gathered fields bs at places op) (breaks (Surplus InFormula at)))
+    (breaks (Foreign InFormula at))
+
+-- the same by the bytes alone
 unfoldable pub next_at : Summary → List Bool → ℕ → List ℕ → ℕ → List ℕ → NextEnd
-next_at s own fields bs at places =
-    cond (eqb (length bs) 0) (breaks (CutShort InFormula at))
-    (let w = opcode (get_or bs 0 0) in
-    cond (allowed s w) (cond (room s w) (taken_at (s.states - 1) own s.gathered fields bs at places w) (breaks (Surplus InFormula at)))
-    (breaks (Foreign InFormula at)))
+next_at s own fields bs at places = cond (eqb (length bs) 0) (breaks (CutShort InFormula at)) (begun s own fields bs at places (opcode (get_or bs 0 0)))
