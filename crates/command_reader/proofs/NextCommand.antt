@@ -66,7 +66,6 @@ module _ (st : ℕ) (own : List Bool) (at : ℕ) (places : List ℕ) where
 
   taken_is : (seen : List Bool) (fields b : ℕ) (ops : List ℕ) (o : Opcode)
       → next_shape st own at places (operands_of fields seen at ops o) ≡ taken_at st own seen fields (b ∷ ops) at places o
-  unfolding state_at step_at tied_at test_at testv_at bind_at gather_at guard_at
   taken_is seen fields b ops end-op = refl
   taken_is seen fields b ops state-op =
       fixed b ops 1 (ltb (get_or ops 0 0) 4) (STATE (kind_of (get_or ops 0 0))) (State (get_or ops 0 0)) refl

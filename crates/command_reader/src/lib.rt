@@ -73,7 +73,6 @@ fn fixed(part: Part<'_>, used: usize, exist: bool, command: Command) -> Result<T
 }
 
 // A STATE, or its refusal.
-#[tactic(auto, unfolding(crate::specs::inner::Take::state_at))]
 fn take_state(part: Part<'_>) -> Result<Taken, Refusal>
     ensures { result ≡ state_at part.entry.bytes.now part.entry.at }
 {
@@ -82,7 +81,6 @@ fn take_state(part: Part<'_>) -> Result<Taken, Refusal>
 }
 
 // A STEP, or its refusal.
-#[tactic(auto, unfolding(crate::specs::inner::Take::step_at))]
 fn take_step(part: Part<'_>) -> Result<Taken, Refusal>
     ensures { result ≡ step_at part.entry.bytes.now part.entry.at }
 {
@@ -91,7 +89,6 @@ fn take_step(part: Part<'_>) -> Result<Taken, Refusal>
 }
 
 // A TIED, or its refusal.
-#[tactic(auto, unfolding(crate::specs::inner::Take::tied_at))]
 fn take_tied(part: Part<'_>) -> Result<Taken, Refusal>
     ensures { result ≡ tied_at part.entry.bytes.now part.entry.at }
 {
@@ -100,7 +97,6 @@ fn take_tied(part: Part<'_>) -> Result<Taken, Refusal>
 }
 
 // A TEST, or its refusal; the operators are 0 to 5.
-#[tactic(auto, unfolding(crate::specs::inner::Take::test_at))]
 fn take_test(part: Part<'_>, fields: usize) -> Result<Taken, Refusal>
     ensures { result ≡ test_at part.entry.bytes.now part.entry.at fields }
 {
@@ -110,7 +106,6 @@ fn take_test(part: Part<'_>, fields: usize) -> Result<Taken, Refusal>
 }
 
 // A TESTV, or its refusal; the operators are 0 to 5.
-#[tactic(auto, unfolding(crate::specs::inner::Take::testv_at))]
 fn take_testv(part: Part<'_>, fields: usize) -> Result<Taken, Refusal>
     ensures { result ≡ testv_at part.entry.bytes.now part.entry.at fields }
 {
@@ -121,7 +116,6 @@ fn take_testv(part: Part<'_>, fields: usize) -> Result<Taken, Refusal>
 }
 
 // A BIND, or its refusal.
-#[tactic(auto, unfolding(crate::specs::inner::Take::bind_at))]
 fn take_bind(part: Part<'_>, fields: usize) -> Result<Taken, Refusal>
     ensures { result ≡ bind_at part.entry.bytes.now part.entry.at fields }
 {
@@ -138,7 +132,6 @@ fn is_again(seen: [bool; 4], b: u8) -> bool
 }
 
 // A GATHER in a step that gathers into the lists marked, or its refusal.
-#[tactic(auto, unfolding(crate::specs::inner::Take::gather_at))]
 fn take_gather(part: Part<'_>, fields: usize, seen: [bool; 4]) -> Result<Taken, Refusal>
     ensures { result ≡ gather_at seen part.entry.bytes.now part.entry.at fields }
 {
@@ -156,7 +149,6 @@ fn take_gather(part: Part<'_>, fields: usize, seen: [bool; 4]) -> Result<Taken, 
 }
 
 // A GUARD with its expression, or the refusal.
-#[tactic(auto, unfolding(crate::specs::inner::Take::guard_at))]
 fn take_guard(part: Part<'_>, scope: Scope, places: &mut [usize; 145]) -> Result<Taken, Refusal>
     requires { 0 < length part.bytes.now }
     ensures { taken_end result places.new ≡ guard_at scope.state scope.own part.entry.bytes.now part.entry.at places.old }

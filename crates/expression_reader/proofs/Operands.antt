@@ -282,7 +282,7 @@ module _ (s : ℕ) (own : List Bool) where
 
     head-is : (left at b : ℕ) (ops places : List ℕ) (o : ExprOpcode) → Ordered o
         → shape s own at places (expr_of op left at ops o) ≡ after (complete (view op) (operands_of (takes o)) at (b ∷ ops)) (head_of s own left at (b ∷ ops) places (takes o))
-    unfolding complete const_head var_head count_head list_head
+    unfolding complete
     head-is left at b ops places const-op g = rw (ltb-suc (length ops) 4) (const-is at left b ops places (ltb (length ops) 4))
     head-is left at b ops places var-op g =
         rw (ltb-suc (length ops) 1) (var-is at left b (get_or ops 0 0) ops places (ltb (length ops) 1) (ltb (get_or ops 0 0) 8))
@@ -316,7 +316,7 @@ module _ (s : ℕ) (own : List Bool) where
   -- an expression is its command and the operands that it takes
   read_is : (d left at : ℕ) (bs places : List ℕ)
       → shape s own at places (read_expr d left at bs) ≡ taken-by d left at bs places (takes_at d left at bs)
-  unfolding read_expr expr_with Rattle.formula.specs.Read.over takes_at
+  unfolding read_expr expr_with Rattle.formula.specs.Read.over
   read_is zero left at [] places = refl
   read_is zero left at (b ∷ ops) places = rw (suc-eqb (length ops)) (over-is at places (expr_opcode b))
   read_is (suc d) left at [] places = refl

@@ -107,7 +107,6 @@ impl<'a> Part<'a> {
     }
 
     // The byte behind the command's, or that it is cut short.
-    #[tactic(auto, unfolding(crate::specs::inner::Prefix::operand_at))]
     fn operand(self) -> Result<u8, Refusal>
         ensures { result ≡ operand_at self.entry.at self.entry.bytes.now }
     {
@@ -160,7 +159,6 @@ fn over(part: Part<'_>, t: Takes) -> Refusal
 }
 
 // A CONST, or its refusal.
-#[tactic(auto, unfolding(crate::specs::inner::Prefix::const_head))]
 fn const_head(part: Part<'_>, left: usize) -> Result<Prefix, Refusal>
     ensures is { result ≡ const_head left part.entry.at part.entry.bytes.now }
     ensures inside { IfOk result (λ p. p.used ≤ length part.entry.bytes.now) }
@@ -172,7 +170,6 @@ fn const_head(part: Part<'_>, left: usize) -> Result<Prefix, Refusal>
 }
 
 // A VAR, or its refusal.
-#[tactic(auto, unfolding(crate::specs::inner::Prefix::var_head, crate::specs::inner::Prefix::operand_at))]
 fn var_head(
     part: Part<'_>,
     left: usize,
@@ -191,7 +188,6 @@ fn var_head(
 }
 
 // A COUNT, or its refusal.
-#[tactic(auto, unfolding(crate::specs::inner::Prefix::count_head, crate::specs::inner::Prefix::operand_at))]
 fn count_head(part: Part<'_>, left: usize, places: &mut [usize; 145]) -> Result<Prefix, Refusal>
     ensures is { end_of result places.new ≡ count_head left part.entry.at part.entry.bytes.now places.old }
     ensures inside { IfOk result (λ p. p.used ≤ length part.entry.bytes.now) }
@@ -209,7 +205,6 @@ pub fn is_list(b: u8) -> bool
 }
 
 // A SUM, LENGTH or DIFFERENT, or its refusal.
-#[tactic(auto, unfolding(crate::specs::inner::Prefix::list_head, crate::specs::inner::Prefix::operand_at))]
 fn list_head(part: Part<'_>, left: usize) -> Result<Prefix, Refusal>
     ensures is { result ≡ list_head left part.entry.at part.entry.bytes.now }
     ensures inside { IfOk result (λ p. p.used ≤ length part.entry.bytes.now) }
@@ -243,7 +238,6 @@ fn head_of(
 }
 
 // What the command takes that the part begins with, where one more is allowed, or its refusal.
-#[tactic(auto, unfolding(crate::specs::inner::Prefix::takes_at))]
 fn takes_at(part: Part<'_>, depth: usize, left: usize) -> Result<Takes, Refusal>
     ensures is { result ≡ takes_at depth left part.entry.at part.entry.bytes.now }
     ensures allowed { IfOk result (λ t. (0 < length part.entry.bytes.now) × (0 < depth) × (0 < left)) }

@@ -5,8 +5,7 @@ ghost use Rattle.expression_reader.specs.inner.Places.{nowhere, noted, state_key
 
 use crate::Scope;
 
-// The place of what is named nowhere, above all places of a file. No Option: the definition's table (specs/inner/Places, the laws in
-// proofs/NotedPlaces) is a list of numbers, of which the lowest is kept, and `Option<usize>` would double it.
+// The place of what is named nowhere, above all places of a file. No Option: the table has one number a key, and would double (fixed memory).
 pub const NOWHERE: usize = usize::MAX;
 
 // A key is named at `at`: the lowest place is kept.

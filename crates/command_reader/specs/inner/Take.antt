@@ -63,26 +63,26 @@ unfoldable pub fixed_at : List ℕ → ℕ → ℕ → Bool → Kept → Result 
 fixed_at bs at width exist c =
     cond (ltb (length bs) width) (Err (CutShort InFormula at)) (cond exist (Ok (record { command = c; used = width })) (Err (Value InFormula at)))
 
-unfoldable pub state_at : List ℕ → ℕ → Result Taken Refusal
+abbrev pub state_at : List ℕ → ℕ → Result Taken Refusal
 state_at bs at = fixed_at bs at 2 (ltb (get_or bs 1 0) 4) (State (get_or bs 1 0))
 
-unfoldable pub step_at : List ℕ → ℕ → Result Taken Refusal
+abbrev pub step_at : List ℕ → ℕ → Result Taken Refusal
 step_at bs at = fixed_at bs at 2 true (Step (get_or bs 1 0))
 
-unfoldable pub tied_at : List ℕ → ℕ → Result Taken Refusal
+abbrev pub tied_at : List ℕ → ℕ → Result Taken Refusal
 tied_at bs at = fixed_at bs at 2 (ltb (get_or bs 1 0) 8) (Tied (get_or bs 1 0))
 
-unfoldable pub test_at : List ℕ → ℕ → ℕ → Result Taken Refusal
+abbrev pub test_at : List ℕ → ℕ → ℕ → Result Taken Refusal
 test_at bs at fields = fixed_at bs at 7 (ltb (get_or bs 1 0) fields && ltb (get_or bs 2 0) 6) Test
 
-unfoldable pub testv_at : List ℕ → ℕ → ℕ → Result Taken Refusal
+abbrev pub testv_at : List ℕ → ℕ → ℕ → Result Taken Refusal
 testv_at bs at fields = fixed_at bs at 4 (ltb (get_or bs 1 0) fields && ltb (get_or bs 2 0) 6 && ltb (get_or bs 3 0) 8) (Testv (get_or bs 3 0))
 
-unfoldable pub bind_at : List ℕ → ℕ → ℕ → Result Taken Refusal
+abbrev pub bind_at : List ℕ → ℕ → ℕ → Result Taken Refusal
 bind_at bs at fields = fixed_at bs at 3 (ltb (get_or bs 1 0) fields && ltb (get_or bs 2 0) 8) (Bind (get_or bs 2 0))
 
 -- a GATHER, where `seen` marks the lists that its step gathers into
-unfoldable pub gather_at : List Bool → List ℕ → ℕ → ℕ → Result Taken Refusal
+abbrev pub gather_at : List Bool → List ℕ → ℕ → ℕ → Result Taken Refusal
 gather_at seen bs at fields =
     cond (ltb (length bs) 3) (Err (CutShort InFormula at))
     (cond (again seen (get_or bs 2 0)) (Err (Twice at))
@@ -93,7 +93,7 @@ abbrev pub guard_of : ExprEnd → NextEnd
 guard_of (whole p places) = goes_on Guard (1 + p.used) places
 guard_of (broken r) = breaks r
 
-unfoldable pub guard_at : ℕ → List Bool → List ℕ → ℕ → List ℕ → NextEnd
+abbrev pub guard_at : ℕ → List Bool → List ℕ → ℕ → List ℕ → NextEnd
 guard_at s own bs at places = guard_of (shape s own (at + 1) places (read_expr 8 31 (at + 1) (drop 1 bs)))
 
 -- an allowed command

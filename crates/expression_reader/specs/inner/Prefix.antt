@@ -41,7 +41,7 @@ over (Operands n) at = Surplus InFormula at
 over TakesNothing at = Foreign InFormula at
 
 -- what the command at `at` takes, where bs begins, if at most `depth` more levels and `left` more commands are allowed
-unfoldable pub takes_at : ℕ → ℕ → ℕ → List ℕ → Result Takes Refusal
+abbrev pub takes_at : ℕ → ℕ → ℕ → List ℕ → Result Takes Refusal
 takes_at depth left at bs =
     let t = takes (expr_opcode (get_or bs 0 0)) in
     cond (eqb (length bs) 0) (Err (CutShort InFormula at)) (cond (eqb depth 0) (Err (over t at)) (cond (eqb left 0) (Err (over t at)) (Ok t)))
@@ -65,22 +65,22 @@ abbrev pub front : ℕ → ℕ → Prefix
 front used left = record { used = used; left = left }
 
 -- the byte behind a command's, at `at`, where bs begins
-unfoldable pub operand_at : ℕ → List ℕ → Result ℕ Refusal
+abbrev pub operand_at : ℕ → List ℕ → Result ℕ Refusal
 operand_at at bs = cond (ltb (length bs) 2) (Err (CutShort InFormula at)) (Ok (get_or bs 1 0))
 
 -- a CONST, VAR, COUNT, or one of a list, at `at`, where bs begins
-unfoldable pub const_head : ℕ → ℕ → List ℕ → Result Prefix Refusal
+abbrev pub const_head : ℕ → ℕ → List ℕ → Result Prefix Refusal
 const_head left at bs = cond (ltb (length bs) 5) (Err (CutShort InFormula at)) (Ok (front 5 left))
 
-unfoldable pub var_head : ℕ → List Bool → ℕ → ℕ → List ℕ → List ℕ → ExprEnd
+abbrev pub var_head : ℕ → List Bool → ℕ → ℕ → List ℕ → List ℕ → ExprEnd
 var_head s own left at bs places =
     cond (ltb (length bs) 2) (broken (CutShort InFormula at))
     (cond (ltb (get_or bs 1 0) 8) (whole (front 2 left) (var_noted s own (get_or bs 1 0) at places)) (broken (Value InFormula at)))
 
-unfoldable pub count_head : ℕ → ℕ → List ℕ → List ℕ → ExprEnd
+abbrev pub count_head : ℕ → ℕ → List ℕ → List ℕ → ExprEnd
 count_head left at bs places = cond (ltb (length bs) 2) (broken (CutShort InFormula at)) (whole (front 2 left) (noted places (state_key (get_or bs 1 0)) at))
 
-unfoldable pub list_head : ℕ → ℕ → List ℕ → Result Prefix Refusal
+abbrev pub list_head : ℕ → ℕ → List ℕ → Result Prefix Refusal
 list_head left at bs =
     cond (ltb (length bs) 2) (Err (CutShort InFormula at)) (cond (is_list (get_or bs 1 0)) (Ok (front 2 left)) (Err (Value InFormula at)))
 
