@@ -1,14 +1,13 @@
 // The next command of a formula file: taken, END, or its refusal.
 #![tactic(auto)]
 
-ghost use Rattle.std.specs.Prelude.{◌≡◌, not, ◌&&◌, ltb, ◌+◌, ◌-◌, ◌^◌, ◌≤◌, ◌<◌, length};
-ghost use Rattle.formula.specs.Read.{opcode, allowed, room, again, next};
-ghost use Rattle.command_reader.specs.inner.Take.{operands_at, state_at, step_at, tied_at, test_at, testv_at, bind_at, gather_at, guard_at, taken_at, next_end, next_shape};
-ghost use Rattle.expression_reader.specs.inner.Prefix.{command};
+ghost use Rattle.std.specs.Prelude.{◌≡◌, ◌-◌, ◌≤◌, ◌<◌, length};
+ghost use Rattle.formula.specs.Read.{allowed, room, again, next};
+ghost use Rattle.command_reader.specs.inner.Take.{fixed_at, state_at, step_at, tied_at, test_at, testv_at, bind_at, gather_at, guard_at, taken_at, taken_end, next_end, next_shape};
 
-use expression_reader::{ExprRead, is_list, read_expr};
+use expression_reader::{Part, Scope, is_list, read_expr};
 use formula::{Opcode, Summary};
-use refusal::{File, Refusal};
+use refusal::Refusal;
 
 // A command of the file with what is kept of it.
 #[derive(Clone, Copy)]
@@ -23,41 +22,11 @@ pub enum Command {
     Guard,
 }
 
-// The next command with its number of bytes, END, or the refusal.
+// A command with its number of bytes.
 #[derive(Clone, Copy)]
-pub enum Next {
-    Taken { command: Command, used: usize },
-    End,
-    Bad(Refusal),
-}
-
-// The command that a byte names.
-fn opcode_of(b: u8) -> Opcode
-    ensures { result ≡ opcode b }
-{
-    match b {
-        0x00 => Opcode::End,
-        0x10 => Opcode::State,
-        0x11 => Opcode::Step,
-        0x12 => Opcode::Test,
-        0x13 => Opcode::Testv,
-        0x14 => Opcode::Bind,
-        0x15 => Opcode::Guard,
-        0x16 => Opcode::Tied,
-        0x17 => Opcode::Gather,
-        0x01..=0x0F => Opcode::Other,
-        0x18..=255 => Opcode::Other,
-    }
-}
-
-// There is one, and the flag is not set.
-fn some_without(n: usize, flag: bool) -> bool
-    ensures { result ≡ (ltb 0 n && not flag) }
-{
-    if flag {
-        return base::both(0 < n, false);
-    }
-    base::both(0 < n, true)
+pub struct Taken {
+    pub command: Command,
+    pub used: usize,
 }
 
 // Whether the command is allowed here.
@@ -67,13 +36,10 @@ fn is_allowed(s: Summary, op: Opcode) -> bool
     match op {
         Opcode::End => 0 < s.states,
         Opcode::State => true,
-        Opcode::Step => some_without(s.states, s.closed),
-        Opcode::Test => some_without(s.steps, s.guarded),
-        Opcode::Testv => some_without(s.steps, s.guarded),
-        Opcode::Bind => some_without(s.steps, s.guarded),
+        Opcode::Step => 0 < s.states && !s.closed,
+        Opcode::Test | Opcode::Testv | Opcode::Bind | Opcode::Gather => 0 < s.steps && !s.guarded,
         Opcode::Guard => 0 < s.steps,
         Opcode::Tied => s.states == 0,
-        Opcode::Gather => some_without(s.steps, s.guarded),
         Opcode::Other => false,
     }
 }
@@ -83,247 +49,169 @@ fn has_room(s: Summary, op: Opcode) -> bool
     ensures { result ≡ room s op }
 {
     match op {
-        Opcode::End => true,
         Opcode::State => s.states < 16,
         Opcode::Step => s.steps < 8,
-        Opcode::Test => s.clauses < 8,
-        Opcode::Testv => s.clauses < 8,
-        Opcode::Bind => s.clauses < 8,
+        Opcode::Test | Opcode::Testv | Opcode::Bind | Opcode::Gather => s.clauses < 8,
         Opcode::Guard => !s.guarded,
         Opcode::Tied => s.tied < 8,
-        Opcode::Gather => s.clauses < 8,
-        Opcode::Other => true,
+        Opcode::End | Opcode::Other => true,
     }
 }
 
 // A command of a fixed width: cut short, or with an operand that does not exist, or taken.
-fn operands_at(part: &[u8], at: usize, width: usize, exist: bool, command: Command) -> Next
-    ensures { result ≡ operands_at part.now at width exist command }
+#[tactic(auto, unfolding(crate::specs::inner::Take::fixed_at))]
+fn fixed(part: Part<'_>, used: usize, exist: bool, command: Command) -> Result<Taken, Refusal>
+    ensures { result ≡ fixed_at part.entry.bytes.now part.entry.at used exist command }
 {
-    if part.len() < width {
-        return Next::Bad(Refusal::CutShort {
-            file: File::Formula,
-            place: at,
-        });
+    if part.bytes.len() < used {
+        return Err(part.cut_short());
     }
-    if exist {
-        return Next::Taken {
-            command,
-            used: width,
-        };
+    if !exist {
+        return Err(part.absent());
     }
-    Next::Bad(Refusal::Value {
-        file: File::Formula,
-        place: at,
-    })
-}
-
-// Whether a byte is an operator: equal, unequal, less, greater, at most, at least.
-fn is_operator(o: u32) -> bool
-    ensures { result ≡ ltb o 6 }
-{
-    match o {
-        0..=5 => true,
-        6..=4294967295 => false,
-    }
+    Ok(Taken { command, used })
 }
 
 // A STATE, or its refusal.
-fn take_state(part: &[u8], at: usize) -> Next
-    ensures { result ≡ state_at part.now at }
+fn take_state(part: Part<'_>) -> Result<Taken, Refusal>
+    ensures { result ≡ state_at part.entry.bytes.now part.entry.at }
 {
-    let k = base::byte_at(part, 1);
-    operands_at(part, at, 2, k < 4, Command::State(k))
+    let k = part.byte(1);
+    fixed(part, 2, k < 4, Command::State(u32::from(k)))
 }
 
 // A STEP, or its refusal.
-fn take_step(part: &[u8], at: usize) -> Next
-    ensures { result ≡ step_at part.now at }
+fn take_step(part: Part<'_>) -> Result<Taken, Refusal>
+    ensures { result ≡ step_at part.entry.bytes.now part.entry.at }
 {
-    let t = base::byte_at(part, 1) as usize;
-    operands_at(part, at, 2, true, Command::Step(t))
+    let t = usize::from(part.byte(1));
+    fixed(part, 2, true, Command::Step(t))
 }
 
 // A TIED, or its refusal.
-fn take_tied(part: &[u8], at: usize) -> Next
-    ensures { result ≡ tied_at part.now at }
+fn take_tied(part: Part<'_>) -> Result<Taken, Refusal>
+    ensures { result ≡ tied_at part.entry.bytes.now part.entry.at }
 {
-    let v = base::byte_at(part, 1) as usize;
-    operands_at(part, at, 2, v < 8, Command::Tied(v))
+    let v = usize::from(part.byte(1));
+    fixed(part, 2, v < 8, Command::Tied(v))
 }
 
-// A TEST, or its refusal.
-fn take_test(part: &[u8], at: usize, fields: usize) -> Next
-    ensures { result ≡ test_at part.now at fields }
+// A TEST, or its refusal; the operators are 0 to 5.
+fn take_test(part: Part<'_>, fields: usize) -> Result<Taken, Refusal>
+    ensures { result ≡ test_at part.entry.bytes.now part.entry.at fields }
 {
-    let f = base::byte_at(part, 1) as usize;
-    let o = base::byte_at(part, 2);
-    operands_at(
-        part,
-        at,
-        7,
-        base::both(f < fields, is_operator(o)),
-        Command::Test,
-    )
+    let f = usize::from(part.byte(1));
+    let o = part.byte(2);
+    fixed(part, 7, f < fields && o < 6, Command::Test)
 }
 
-// A TESTV, or its refusal.
-fn take_testv(part: &[u8], at: usize, fields: usize) -> Next
-    ensures { result ≡ testv_at part.now at fields }
+// A TESTV, or its refusal; the operators are 0 to 5.
+fn take_testv(part: Part<'_>, fields: usize) -> Result<Taken, Refusal>
+    ensures { result ≡ testv_at part.entry.bytes.now part.entry.at fields }
 {
-    let f = base::byte_at(part, 1) as usize;
-    let o = base::byte_at(part, 2);
-    let v = base::byte_at(part, 3) as usize;
-    operands_at(
-        part,
-        at,
-        4,
-        base::both(base::both(f < fields, is_operator(o)), v < 8),
-        Command::Testv(v),
-    )
+    let f = usize::from(part.byte(1));
+    let o = part.byte(2);
+    let v = usize::from(part.byte(3));
+    fixed(part, 4, f < fields && o < 6 && v < 8, Command::Testv(v))
 }
 
 // A BIND, or its refusal.
-fn take_bind(part: &[u8], at: usize, fields: usize) -> Next
-    ensures { result ≡ bind_at part.now at fields }
+fn take_bind(part: Part<'_>, fields: usize) -> Result<Taken, Refusal>
+    ensures { result ≡ bind_at part.entry.bytes.now part.entry.at fields }
 {
-    let f = base::byte_at(part, 1) as usize;
-    let v = base::byte_at(part, 2) as usize;
-    operands_at(part, at, 3, base::both(f < fields, v < 8), Command::Bind(v))
+    let f = usize::from(part.byte(1));
+    let v = usize::from(part.byte(2));
+    fixed(part, 3, f < fields && v < 8, Command::Bind(v))
 }
 
 // Whether a byte names a list that the step gathers into already.
-fn is_again(seen: [bool; 4], b: u32) -> bool
+fn is_again(seen: [bool; 4], b: u8) -> bool
     ensures { result ≡ again seen b }
 {
-    if is_list(b) {
-        return seen[b as usize - 8];
-    }
-    false
-}
-
-// The number of the list that a byte names, 0 if it names none.
-fn list_number(b: u32) -> usize
-    ensures { result ≡ b - 8 }
-{
-    if b < 8 {
-        return 0;
-    }
-    b as usize - 8
+    is_list(b) && seen[usize::from(b) - 8]
 }
 
 // A GATHER in a step that gathers into the lists marked, or its refusal.
-fn take_gather(part: &[u8], at: usize, fields: usize, seen: [bool; 4]) -> Next
-    ensures { result ≡ gather_at seen part.now at fields }
+fn take_gather(part: Part<'_>, fields: usize, seen: [bool; 4]) -> Result<Taken, Refusal>
+    ensures { result ≡ gather_at seen part.entry.bytes.now part.entry.at fields }
 {
-    let f = base::byte_at(part, 1) as usize;
-    let v = base::byte_at(part, 2);
-    let exist = base::both(f < fields, is_list(v));
-    if part.len() < 3 {
-        return Next::Bad(Refusal::CutShort {
-            file: File::Formula,
-            place: at,
-        });
+    if part.bytes.len() < 3 {
+        return Err(part.cut_short());
     }
+    let f = usize::from(part.byte(1));
+    let v = part.byte(2);
+    let exist = f < fields && is_list(v);
     if is_again(seen, v) {
-        return Next::Bad(Refusal::Twice { place: at });
+        return Err(Refusal::Twice { place: part.at });
     }
-    operands_at(part, at, 3, exist, Command::Gather(list_number(v)))
+    let list = usize::from(v).saturating_sub(8);
+    fixed(part, 3, exist, Command::Gather(list))
 }
 
-// A GUARD with its expression, in a step of this state that binds the variables marked, or the refusal.
-fn take_guard(
-    part: &[u8],
-    at: usize,
-    state: usize,
-    own: [bool; 8],
-    places: &mut [usize; 145],
-) -> Next
-    requires { (0 < length part.now) × (at + length part.now < 2 ^ 64) × (state < 16) }
-    ensures { next_end result places.new ≡ guard_at state own part.now at places.old }
+// A GUARD with its expression, or the refusal.
+fn take_guard(part: Part<'_>, scope: Scope, places: &mut [usize; 145]) -> Result<Taken, Refusal>
+    requires { 0 < length part.bytes.now }
+    ensures { taken_end result places.new ≡ guard_at scope.state scope.own part.entry.bytes.now part.entry.at places.old }
 {
-    let read = read_expr(&part[1..], at + 1, 8, 31, state, own, places);
-    match read {
-        ExprRead::Taken(p) => Next::Taken {
-            command: Command::Guard,
-            used: 1 + p.used,
-        },
-        ExprRead::Bad(r) => Next::Bad(r),
-    }
+    let guard = read_expr(part.behind(1), 8, 31, scope, places)?;
+    Ok(Taken {
+        command: Command::Guard,
+        used: 1 + guard.used,
+    })
 }
 
-// A command that is allowed and has room, by the byte that names it: taken, END, or its refusal.
+// A command that is allowed and has room, by the byte that names it: taken, none for END, or its refusal.
 fn take_command(
     op: Opcode,
-    part: &[u8],
-    at: usize,
+    part: Part<'_>,
     fields: usize,
-    state: usize,
-    own: [bool; 8],
+    scope: Scope,
     seen: [bool; 4],
     places: &mut [usize; 145],
-) -> Next
-    requires { (0 < length part.now) × (at + length part.now < 2 ^ 64) × (state < 16) }
-    ensures { next_end result places.new ≡ taken_at state own seen fields part.now at places.old op }
+) -> Result<Option<Taken>, Refusal>
+    requires { 0 < length part.bytes.now }
+    ensures { next_end result places.new ≡ taken_at scope.state scope.own seen fields part.entry.bytes.now part.entry.at places.old op }
 {
-    match op {
-        Opcode::End => Next::End,
-        Opcode::State => take_state(part, at),
-        Opcode::Step => take_step(part, at),
-        Opcode::Test => take_test(part, at, fields),
-        Opcode::Testv => take_testv(part, at, fields),
-        Opcode::Bind => take_bind(part, at, fields),
-        Opcode::Guard => take_guard(part, at, state, own, places),
-        Opcode::Tied => take_tied(part, at),
-        Opcode::Gather => take_gather(part, at, fields, seen),
-        Opcode::Other => Next::Bad(Refusal::Foreign {
-            file: File::Formula,
-            place: at,
-        }),
-    }
+    let taken = match op {
+        Opcode::End => return Ok(None),
+        Opcode::State => take_state(part),
+        Opcode::Step => take_step(part),
+        Opcode::Test => take_test(part, fields),
+        Opcode::Testv => take_testv(part, fields),
+        Opcode::Bind => take_bind(part, fields),
+        Opcode::Guard => take_guard(part, scope, places),
+        Opcode::Tied => take_tied(part),
+        Opcode::Gather => take_gather(part, fields, seen),
+        Opcode::Other => Err(part.foreign()),
+    };
+    taken.map(Some)
 }
 
-// One less, 0 from 0.
-pub fn before(n: usize) -> usize
-    ensures { result ≡ n - 1 }
-{
-    if n == 0 {
-        return 0;
-    }
-    n - 1
-}
-
-// The next command at `at`, where the part begins, END, or the refusal; `own` marks the variables that the last step binds.
+// The next command, which the part begins with, none for END, or the refusal; `own` marks the variables that the last step binds.
+#[tactic(auto, using(crate::proofs::NextCommand::next_is), unfolding(crate::specs::inner::Take::next_at))]
 pub fn next_command(
-    part: &[u8],
-    at: usize,
+    part: Part<'_>,
     fields: usize,
     s: Summary,
     own: [bool; 8],
     places: &mut [usize; 145],
-) -> Next
-    requires { (at + length part.now < 2 ^ 64) × (s.states ≤ 16) }
-    ensures { next_end result places.new ≡ next_shape (s.states - 1) own at places.old (next fields s at part.now) }
+) -> Result<Option<Taken>, Refusal>
+    requires { s.states ≤ 16 }
+    ensures { next_end result places.new ≡ next_shape (s.states - 1) own part.entry.at places.old (next fields s part.entry.at part.entry.bytes.now) }
 {
-    if part.len() == 0 {
-        return Next::Bad(Refusal::CutShort {
-            file: File::Formula,
-            place: at,
-        });
-    }
-    let op = opcode_of(part[0]);
+    let Some(b) = part.bytes.first() else {
+        return Err(part.cut_short());
+    };
+    let op = Opcode::from(*b);
     if !is_allowed(s, op) {
-        return Next::Bad(Refusal::Foreign {
-            file: File::Formula,
-            place: at,
-        });
+        return Err(part.foreign());
     }
     if !has_room(s, op) {
-        return Next::Bad(Refusal::Surplus {
-            file: File::Formula,
-            place: at,
-        });
+        return Err(part.surplus());
     }
-    let seen = s.gathered;
-    take_command(op, part, at, fields, before(s.states), own, seen, places)
+    let scope = Scope {
+        state: s.states.saturating_sub(1),
+        own,
+    };
+    take_command(op, part, fields, scope, s.gathered, places)
 }

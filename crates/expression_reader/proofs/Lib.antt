@@ -1,5 +1,4 @@
 -- Laws that the reader of an expression rests on.
-pub mod Opcodes
-pub mod Operands
 pub mod LowestPlace
 pub mod NotedPlaces
+pub mod Operands

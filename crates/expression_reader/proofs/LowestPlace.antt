@@ -1,36 +1,37 @@
 -- The lowest place of the keys from one on, one key more at a time.
-use Prim.Native.Nat.{ℕ, suc, ◌+◌, ◌-◌, ◌<◌, ◌≤◌, min}
-use mathlib.Core.Path.{◌≡◌, refl, sym, ap, ◌∙◌}
-use mathlib.Core.Bool.{Bool, true, false, cond, not}
+use Prim.Native.Nat.{ℕ, zero, suc, ◌+◌, ◌-◌, ◌<◌, ◌≤◌, min}
+use mathlib.Core.Path.{◌≡◌}
+use mathlib.Core.Bool.{Bool, true, false, cond}
 use mathlib.Core.List.{List}
 use native.Mathlib.Omega.{arith}
-use lib.Dec.{leb, ltb}
 use lib.ListN.{get_or}
-use borrow.Author.Tests.{ltb-true, ltb-false, le-leb, lt-leb}
 use Rattle.expression_reader.specs.inner.Places.{nowhere, lowest_from}
 
--- at most, as a test: not below
-pub leb-ltb : (a b : ℕ) → leb a b ≡ not (ltb b a)
-leb-ltb a b = go (ltb b a) refl where
-  go : (t : Bool) → ltb b a ≡ t → leb a b ≡ not (ltb b a)
-  go true e = lt-leb a b (ltb-true b a e) ∙ ap not (sym e)
-  go false e = le-leb a b (ltb-false b a e) ∙ ap not (sym e)
+module _ (look : ℕ → Bool) (places : List ℕ) where
+  -- no place is above nowhere
+  lowest-most : (k n : ℕ) → lowest_from look places k n ≤ nowhere
+  unfolding lowest_from
+  lowest-most k zero = omega arith
+  lowest-most k (suc n) = omega (arith, lowest-most (k + 1) n)
 
--- behind the last key there is none
-pub lowest-none : (look : ℕ → Bool) (places : List ℕ) → nowhere ≡ lowest_from look places 145 (145 - 145)
-unfolding lowest_from
-lowest-none look places = refl
+  -- where no key was looked at yet
+  pub lowest-none : min nowhere (lowest_from look places 0 145) ≡ lowest_from look places 0 145
+  lowest-none = omega (arith, lowest-most 0 145)
 
--- one more key, before those from k on
-pub lowest-on : (look : ℕ → Bool) (places : List ℕ) (k lowest : ℕ) → 0 < k → k ≤ 145 → lowest ≡ lowest_from look places k (145 - k)
-    → min (cond (look (k - 1)) (get_or places (k - 1) 0) nowhere) lowest ≡ lowest_from look places (k - 1) (145 - (k - 1))
-unfolding lowest_from
-lowest-on look places k lowest h l e =
-    let p : 145 - (k - 1) ≡ suc (145 - k) = omega arith in
-    let q : k - 1 + 1 ≡ k = omega arith in
-    rw (p, q, e)
+  -- one more key, which is looked at or not
+  lowest-by : (b : Bool) (lowest place rest : ℕ) → lowest ≤ nowhere → min (cond b (min lowest place) lowest) rest ≡ min lowest (min (cond b place nowhere) rest)
+  lowest-by true lowest place rest h = omega arith
+  lowest-by false lowest place rest h = omega arith
 
--- all keys
-pub lowest-all : (look : ℕ → Bool) (places : List ℕ) (k lowest : ℕ) → k ≤ 0 → lowest ≡ lowest_from look places k (145 - k)
-    → lowest ≡ lowest_from look places 0 145
-lowest-all look places k lowest h e = let z : k ≡ 0 = omega arith in e ∙ ap (λ j. lowest_from look places j (145 - j)) z
+  pub lowest-on : (k lowest : ℕ) (b : Bool) → k < 145 → lowest ≤ nowhere → look k ≡ b
+      → min (cond b (min lowest (get_or places k 0)) lowest) (lowest_from look places (k + 1) (145 - (k + 1)))
+      ≡ min lowest (lowest_from look places k (145 - k))
+  unfolding lowest_from
+  lowest-on k lowest b h l q =
+      let e : 145 - k ≡ suc (145 - (k + 1)) = omega arith in
+      rw (e, q) (lowest-by b lowest (get_or places k 0) (lowest_from look places (k + 1) (145 - (k + 1))) l)
+
+  -- behind the last key there is none
+  pub lowest-end : (k lowest : ℕ) → 145 ≤ k → lowest ≤ nowhere → min lowest (lowest_from look places k (145 - k)) ≡ lowest
+  unfolding lowest_from
+  lowest-end k lowest h l = let e : 145 - k ≡ 0 = omega arith in rw e (omega arith)

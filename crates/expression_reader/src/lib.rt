@@ -3,12 +3,30 @@
 
 pub mod places;
 
-ghost use Rattle.std.specs.Prelude.{◌≡◌, ◌+◌, ◌^◌, ◌<◌, length};
-ghost use Rattle.formula.specs.Read.{expr_opcode, is_list, read_expr};
-ghost use Rattle.expression_reader.specs.inner.Prefix.{takes, over, joined, command, end_of, const_head, var_head, count_head, list_head, head_of, expr_head, shape};
+ghost use Rattle.std.specs.Prelude.{◌≡◌, ◌+◌, ◌^◌, ◌≤◌, ◌<◌, get_or, drop, length, IfOk};
+ghost use Rattle.refusal.specs.declared.File.TheVariants.{Formula as InFormula};
+ghost use Rattle.refusal.specs.declared.Refusal.TheVariants.{CutShort, Foreign, Value, Surplus};
+ghost use Rattle.formula.specs.Read.{is_list, read_expr};
+ghost use Rattle.expression_reader.specs.inner.Prefix.{operands_of, over, takes_at, end_of, operand_at, const_head, var_head, count_head, list_head, head_of, shape};
 
 use crate::places::{note, note_var, state_key};
 use refusal::{File, Refusal};
+
+// The part of the formula file from an offset on.
+#[derive(Clone, Copy)]
+pub struct Part<'a> {
+    pub bytes: &'a [u8],
+    pub at: usize,
+    ghost fits: { at + length bytes.now < 2 ^ 64 },
+}
+
+// Where an expression stands: the state of its STEP, and the variables that the step binds.
+#[derive(Clone, Copy)]
+pub struct Scope {
+    pub state: usize,
+    pub own: [bool; 8],
+    ghost exists: { state < 16 },
+}
 
 // What an expression command takes: a value, a variable, a state, a list, or a number of operands.
 #[derive(Clone, Copy)]
@@ -21,250 +39,245 @@ enum Takes {
     Foreign,
 }
 
-// The front of an expression: bytes used, commands still allowed, operands still to come.
+// The front of an expression: bytes used, commands still allowed.
 #[derive(Clone, Copy)]
 pub struct Prefix {
     pub used: usize,
     pub left: usize,
-    pub operands: usize,
 }
 
-// The front of an expression, or the refusal of a command in it.
-#[derive(Clone, Copy)]
-pub enum ExprRead {
-    Taken(Prefix),
-    Bad(Refusal),
-}
-
-// The command that a byte names, by what it takes.
-fn takes_of(op: u8) -> Takes
-    ensures { result ≡ takes (expr_opcode op) }
-{
-    match op {
-        0x20 => Takes::Value,
-        0x21 => Takes::Variable,
-        0x22 => Takes::State,
-        0x28 => Takes::Operands(1),
-        0x2B => Takes::Operands(3),
-        0x23..=0x27 => Takes::Operands(2),
-        0x29..=0x2A => Takes::Operands(2),
-        0x2C..=0x2E => Takes::List,
-        0..=0x1F => Takes::Foreign,
-        0x2F..=255 => Takes::Foreign,
+impl<'a> Part<'a> {
+    // The part behind its first bytes.
+    pub fn behind(self, used: usize) -> Part<'a>
+        requires { used ≤ length self.bytes.now }
+        ensures bytes { result.bytes.now ≡ drop used self.entry.bytes.now }
+        ensures at { result.at ≡ self.entry.at + used }
+    {
+        Part {
+            bytes: &self.bytes[used..],
+            at: self.at + used,
+        }
     }
-}
 
-// A command where none is allowed any more: surplus where it would begin an expression.
-fn over_at(t: Takes, at: usize) -> ExprRead
-    ensures { result ≡ over t at }
-{
-    let Takes::Foreign = t else {
-        return ExprRead::Bad(Refusal::Surplus {
+    // The byte at an offset of the part, 0 past the end.
+    pub fn byte(self, k: usize) -> u8
+        ensures { result ≡ get_or self.entry.bytes.now k 0 }
+    {
+        base::get_or(self.bytes, k, 0)
+    }
+
+    // The refusal of the command that the part begins with, if its operands run past the end.
+    pub fn cut_short(self) -> Refusal
+        ensures { result ≡ CutShort InFormula self.entry.at }
+    {
+        Refusal::CutShort {
             file: File::Formula,
-            place: at,
-        });
-    };
-    ExprRead::Bad(Refusal::Foreign {
-        file: File::Formula,
-        place: at,
-    })
-}
+            place: self.at,
+        }
+    }
 
-// An expression's front and its next operand.
-fn join(p: Prefix, q: Prefix) -> Prefix
-    requires { (p.used + q.used < 2 ^ 64) × (0 < p.operands) }
-    ensures { result ≡ joined p q }
-{
-    Prefix {
-        used: p.used + q.used,
-        left: q.left,
-        operands: p.operands - 1,
+    // The refusal of that command, if it is unknown or not allowed there.
+    pub fn foreign(self) -> Refusal
+        ensures { result ≡ Foreign InFormula self.entry.at }
+    {
+        Refusal::Foreign {
+            file: File::Formula,
+            place: self.at,
+        }
+    }
+
+    // The refusal of that command, if it has an operand that does not exist.
+    pub fn absent(self) -> Refusal
+        ensures { result ≡ Value InFormula self.entry.at }
+    {
+        Refusal::Value {
+            file: File::Formula,
+            place: self.at,
+        }
+    }
+
+    // The refusal of that command, if it is one over a stated count or depth.
+    pub fn surplus(self) -> Refusal
+        ensures { result ≡ Surplus InFormula self.entry.at }
+    {
+        Refusal::Surplus {
+            file: File::Formula,
+            place: self.at,
+        }
+    }
+
+    // The byte behind the command's, or that it is cut short.
+    fn operand(self) -> Result<u8, Refusal>
+        ensures { result ≡ operand_at self.entry.at self.entry.bytes.now }
+    {
+        self.bytes.get(1).copied().ok_or(self.cut_short())
     }
 }
 
-// A command with its operands to come.
-fn command_with(used: usize, left: usize, operands: usize) -> ExprRead
-    ensures { result ≡ command used left operands }
+impl From<u8> for Takes {
+    ghost use Rattle.formula.specs.Read.{expr_opcode};
+    ghost use Rattle.expression_reader.specs.inner.Prefix.{takes};
+
+    ghost from_gives = { λ b t. t ≡ takes (expr_opcode b) };
+
+    // What the command that a byte names takes.
+    #[tactic(auto, unfolding(formula::specs::Read::expr_opcode))]
+    fn from(b: u8) -> Takes {
+        match b {
+            0x20 => Takes::Value,
+            0x21 => Takes::Variable,
+            0x22 => Takes::State,
+            0x28 => Takes::Operands(1),
+            0x23..=0x27 | 0x29 | 0x2A => Takes::Operands(2),
+            0x2B => Takes::Operands(3),
+            0x2C..=0x2E => Takes::List,
+            _ => Takes::Foreign,
+        }
+    }
+}
+
+impl Takes {
+    // How many operands follow the command.
+    fn operands(self) -> usize
+        ensures { result ≡ operands_of self }
+    {
+        match self {
+            Takes::Operands(n) => n,
+            _ => 0,
+        }
+    }
+}
+
+// The refusal of a command where none is allowed any more: surplus where it would begin an expression.
+fn over(part: Part<'_>, t: Takes) -> Refusal
+    ensures { result ≡ over t part.entry.at }
 {
-    ExprRead::Taken(Prefix {
-        used,
-        left,
-        operands,
-    })
+    match t {
+        Takes::Foreign => part.foreign(),
+        _ => part.surplus(),
+    }
 }
 
 // A CONST, or its refusal.
-fn const_head(part: &[u8], at: usize, left: usize) -> ExprRead
-    ensures { result ≡ const_head left at part.now }
+fn const_head(part: Part<'_>, left: usize) -> Result<Prefix, Refusal>
+    ensures is { result ≡ const_head left part.entry.at part.entry.bytes.now }
+    ensures inside { IfOk result (λ p. p.used ≤ length part.entry.bytes.now) }
 {
-    if part.len() < 5 {
-        return ExprRead::Bad(Refusal::CutShort {
-            file: File::Formula,
-            place: at,
-        });
+    if part.bytes.len() < 5 {
+        return Err(part.cut_short());
     }
-    command_with(5, left, 0)
+    Ok(Prefix { used: 5, left })
 }
 
-// A VAR in a step of this state that binds the variables marked, or its refusal.
+// A VAR, or its refusal.
 fn var_head(
-    part: &[u8],
-    at: usize,
+    part: Part<'_>,
     left: usize,
-    state: usize,
-    own: [bool; 8],
+    scope: Scope,
     places: &mut [usize; 145],
-) -> ExprRead
-    requires { state < 16 }
-    ensures { end_of result places.new ≡ var_head state own left at part.now places.old }
+) -> Result<Prefix, Refusal>
+    ensures is { end_of result places.new ≡ var_head scope.state scope.own left part.entry.at part.entry.bytes.now places.old }
+    ensures inside { IfOk result (λ p. p.used ≤ length part.entry.bytes.now) }
 {
-    if part.len() < 2 {
-        return ExprRead::Bad(Refusal::CutShort {
-            file: File::Formula,
-            place: at,
-        });
+    let v = usize::from(part.operand()?);
+    if 8 <= v {
+        return Err(part.absent());
     }
-    let v = base::byte_at(part, 1) as usize;
-    if v < 8 {
-        note_var(places, state, own, v, at);
-        return command_with(2, left, 0);
-    }
-    ExprRead::Bad(Refusal::Value {
-        file: File::Formula,
-        place: at,
-    })
+    note_var(places, scope, v, part.at);
+    Ok(Prefix { used: 2, left })
 }
 
 // A COUNT, or its refusal.
-fn count_head(part: &[u8], at: usize, left: usize, places: &mut [usize; 145]) -> ExprRead
-    ensures { end_of result places.new ≡ count_head left at part.now places.old }
+fn count_head(part: Part<'_>, left: usize, places: &mut [usize; 145]) -> Result<Prefix, Refusal>
+    ensures is { end_of result places.new ≡ count_head left part.entry.at part.entry.bytes.now places.old }
+    ensures inside { IfOk result (λ p. p.used ≤ length part.entry.bytes.now) }
 {
-    if part.len() < 2 {
-        return ExprRead::Bad(Refusal::CutShort {
-            file: File::Formula,
-            place: at,
-        });
-    }
-    let key = state_key(base::byte_at(part, 1) as usize);
-    note(places, key, at);
-    command_with(2, left, 0)
+    let key = state_key(usize::from(part.operand()?));
+    note(places, key, part.at);
+    Ok(Prefix { used: 2, left })
 }
 
 // Whether a byte names a list.
-pub fn is_list(b: u32) -> bool
+pub fn is_list(b: u8) -> bool
     ensures { result ≡ is_list b }
 {
-    base::both(8 <= b, b < 12)
+    (8..12).contains(&b)
 }
 
 // A SUM, LENGTH or DIFFERENT, or its refusal.
-fn list_head(part: &[u8], at: usize, left: usize) -> ExprRead
-    ensures { result ≡ list_head left at part.now }
+fn list_head(part: Part<'_>, left: usize) -> Result<Prefix, Refusal>
+    ensures is { result ≡ list_head left part.entry.at part.entry.bytes.now }
+    ensures inside { IfOk result (λ p. p.used ≤ length part.entry.bytes.now) }
 {
-    if part.len() < 2 {
-        return ExprRead::Bad(Refusal::CutShort {
-            file: File::Formula,
-            place: at,
-        });
+    if !is_list(part.operand()?) {
+        return Err(part.absent());
     }
-    if is_list(base::byte_at(part, 1)) {
-        return command_with(2, left, 0);
-    }
-    ExprRead::Bad(Refusal::Value {
-        file: File::Formula,
-        place: at,
-    })
+    Ok(Prefix { used: 2, left })
 }
 
-// The expression command of this sort at `at`, where the part begins, or its refusal.
+// The expression command of this sort that the part begins with, or its refusal.
 fn head_of(
+    part: Part<'_>,
     t: Takes,
-    part: &[u8],
-    at: usize,
     left: usize,
-    state: usize,
-    own: [bool; 8],
+    scope: Scope,
     places: &mut [usize; 145],
-) -> ExprRead
-    requires { state < 16 }
-    ensures { end_of result places.new ≡ head_of state own left at part.now places.old t }
+) -> Result<Prefix, Refusal>
+    requires { 0 < length part.bytes.now }
+    ensures is { end_of result places.new ≡ head_of scope.state scope.own left part.entry.at part.entry.bytes.now places.old t }
+    ensures inside { IfOk result (λ p. p.used ≤ length part.entry.bytes.now) }
 {
     match t {
-        Takes::Value => const_head(part, at, left),
-        Takes::Variable => var_head(part, at, left, state, own, places),
-        Takes::State => count_head(part, at, left, places),
-        Takes::List => list_head(part, at, left),
-        Takes::Operands(n) => command_with(1, left, n),
-        Takes::Foreign => ExprRead::Bad(Refusal::Foreign {
-            file: File::Formula,
-            place: at,
-        }),
+        Takes::Value => const_head(part, left),
+        Takes::Variable => var_head(part, left, scope, places),
+        Takes::State => count_head(part, left, places),
+        Takes::List => list_head(part, left),
+        Takes::Operands(_) => Ok(Prefix { used: 1, left }),
+        Takes::Foreign => Err(part.foreign()),
     }
 }
 
-// The expression command at `at`, where the part begins, or its refusal.
-fn expr_head(
-    part: &[u8],
-    at: usize,
-    depth: usize,
-    left: usize,
-    state: usize,
-    own: [bool; 8],
-    places: &mut [usize; 145],
-) -> ExprRead
-    requires { state < 16 }
-    ensures { end_of result places.new ≡ expr_head state own depth left at part.now places.old }
+// What the command takes that the part begins with, where one more is allowed, or its refusal.
+fn takes_at(part: Part<'_>, depth: usize, left: usize) -> Result<Takes, Refusal>
+    ensures is { result ≡ takes_at depth left part.entry.at part.entry.bytes.now }
+    ensures allowed { IfOk result (λ t. (0 < length part.entry.bytes.now) × (0 < depth) × (0 < left)) }
 {
-    if part.len() == 0 {
-        return ExprRead::Bad(Refusal::CutShort {
-            file: File::Formula,
-            place: at,
-        });
-    }
-    let t = takes_of(part[0]);
-    if depth == 0 {
-        return over_at(t, at);
-    }
-    if left == 0 {
-        return over_at(t, at);
-    }
-    head_of(t, part, at, left - 1, state, own, places)
-}
-
-// An expression in prefix order from `at` on, where the part begins: its command, then its operands, each at most one level less
-// deep. Its VARs and COUNTs are noted.
-pub fn read_expr(
-    part: &[u8],
-    at: usize,
-    depth: usize,
-    left: usize,
-    state: usize,
-    own: [bool; 8],
-    places: &mut [usize; 145],
-) -> ExprRead
-    requires { (at + length part.now < 2 ^ 64) × (state < 16) }
-    ensures { end_of result places.new ≡ shape state own at places.old (read_expr depth left at part.now) }
-{
-    let head = expr_head(part, at, depth, left, state, own, places);
-    let ExprRead::Taken(p) = head else {
-        return head;
+    let Some(b) = part.bytes.first() else {
+        return Err(part.cut_short());
     };
-    let mut whole = p;
-    while 0 < whole.operands {
-        let used = whole.used;
+    let t = Takes::from(*b);
+    if depth == 0 || left == 0 {
+        return Err(over(part, t));
+    }
+    Ok(t)
+}
+
+// An expression in prefix order that the part begins with: its command, then its operands, each at most one level less deep. Its
+// VARs and COUNTs are noted.
+pub fn read_expr(
+    part: Part<'_>,
+    depth: usize,
+    left: usize,
+    scope: Scope,
+    places: &mut [usize; 145],
+) -> Result<Prefix, Refusal>
+    ensures is { end_of result places.new ≡ shape scope.state scope.own part.entry.at places.old (read_expr depth left part.entry.at part.entry.bytes.now) }
+    ensures inside { IfOk result (λ p. p.used ≤ length part.entry.bytes.now) }
+{
+    let takes = takes_at(part, depth, left)?;
+    let mut whole = head_of(part, takes, left - 1, scope, places)?;
+    for _ in 0..takes.operands() {
         let operand = read_expr(
-            &part[used..],
-            at + used,
+            part.behind(whole.used),
             depth - 1,
             whole.left,
-            state,
-            own,
+            scope,
             places,
-        );
-        let ExprRead::Taken(q) = operand else {
-            return operand;
+        )?;
+        whole = Prefix {
+            used: whole.used + operand.used,
+            left: operand.left,
         };
-        whole = join(whole, q);
     }
-    ExprRead::Taken(whole)
+    Ok(whole)
 }

@@ -1,69 +1,58 @@
 // Where variables and states are first named: a table with the lowest place of each key.
-ghost use Rattle.std.specs.Prelude.{◌≡◌, cond, ◌<◌};
+ghost use Rattle.std.specs.Prelude.{◌≡◌, ◌<◌};
+ghost use Rattle.base.specs.Lists.{some_below};
 ghost use Rattle.expression_reader.specs.inner.Places.{nowhere, noted, state_key, var_noted, picked, lowest_of};
 
-// The place of what is named nowhere, above all places of a file.
-pub const NOWHERE: usize = 18446744073709551615;
+use crate::Scope;
+
+// The place of what is named nowhere, above all places of a file. No Option: the table has one number a key, and would double (fixed memory).
+pub const NOWHERE: usize = usize::MAX;
 
 // A key is named at `at`: the lowest place is kept.
+#[tactic(auto, unfolding(crate::specs::inner::Places::noted))]
 pub fn note(places: &mut [usize; 145], key: usize, at: usize)
     requires { key < 145 }
     ensures { places.new ≡ noted places.old key at }
 {
-    let lowest = base::lower(at, places[key]);
-    places[key] = lowest;
+    places[key] = at.min(places[key]);
 }
 
 // The key of a state; those that no formula has share one.
+#[tactic(auto, unfolding(crate::specs::inner::Places::state_key))]
 pub fn state_key(t: usize) -> usize
     ensures { (result ≡ state_key t) × (result < 145) }
 {
-    if t < 16 {
-        return 128 + t;
-    }
-    144
+    128 + t.min(16)
 }
 
-// A VAR of variable v in a step of this state, unless the step's own BINDs bind it.
-pub fn note_var(places: &mut [usize; 145], state: usize, own: [bool; 8], v: usize, at: usize)
-    requires { (state < 16) × (v < 8) }
-    ensures { places.new ≡ var_noted state own v at places.old }
+// A VAR of variable v, unless its own step binds it.
+#[tactic(auto, unfolding(crate::specs::inner::Places::var_noted))]
+pub fn note_var(places: &mut [usize; 145], scope: Scope, v: usize, at: usize)
+    requires { v < 8 }
+    ensures { places.new ≡ var_noted scope.state scope.own v at places.old }
 {
-    if own[v] {
-        return;
+    if !scope.own[v] {
+        note(places, v * 16 + scope.state, at);
     }
-    note(places, v * 16 + state, at);
 }
 
 // Whether a key is looked at: that of a variable where it is free, that of a state from a key on.
-fn is_picked(free: [bool; 128], from: usize, key: usize) -> bool
-    ensures { result ≡ picked free from key }
+#[tactic(auto, unfolding(crate::specs::inner::Places::picked))]
+fn is_picked(free: &[bool; 128], from: usize, key: usize) -> bool
+    ensures { result ≡ picked free.now from key }
 {
-    if key < 128 {
-        return free[key];
-    }
-    from <= key
+    if key < 128 { free[key] } else { from <= key }
 }
 
-// The place of a key that is looked at, or nowhere.
-fn place_if(look: bool, place: usize) -> usize
-    ensures { result ≡ cond look place nowhere }
+// The lowest place of the keys that are looked at, if there is one.
+pub fn lowest_of(free: [bool; 128], from: usize, places: &[usize; 145]) -> Option<usize>
+    ensures { result ≡ some_below nowhere (lowest_of free from places.now) }
 {
-    if look {
-        return place;
+    let mut lowest = NOWHERE;
+    for (key, place) in places.iter().enumerate() {
+        if is_picked(&free, from, key) {
+            lowest = lowest.min(*place);
+        }
     }
-    NOWHERE
-}
-
-// The lowest place of the keys that are looked at, or nowhere.
-pub fn lowest_of(free: [bool; 128], from: usize, places: &[usize; 145]) -> usize
-    ensures { result ≡ lowest_of free from places.now }
-{
-    let mut lowest: usize = NOWHERE;
-    let mut key: usize = 145;
-    while 0 < key {
-        key -= 1;
-        lowest = base::lower(place_if(is_picked(free, from, key), places[key]), lowest);
-    }
-    lowest
+    (lowest < NOWHERE).then_some(lowest)
 }

@@ -1,28 +1,29 @@
--- `places::lowest_of` meets its contract: the lowest place of the keys from one on.
+-- `places::lowest_of` meets its contract: the lowest place so far and those from the key on make the lowest of all.
+use mathlib.Core.Bool.{Bool, true, false}
+use mathlib.Core.Path.{sym, ◌∙◌}
 use native.Mathlib.Omega.{arith}
+use borrow.Author.Rules.{rules}
 use Rattle.expression_reader.specs.inner.Places.{nowhere, picked, lowest_of}
-use Rattle.expression_reader.proofs.LowestPlace.{lowest-none, lowest-on, lowest-all}
+use Rattle.expression_reader.proofs.LowestPlace.{lowest-none, lowest-on, lowest-end}
 use Rattle.expression_reader.proofs.places.lowest_of.Goals as goal
+use Rattle.expression_reader.proofs.places.lowest_of.Goals.{then-is_picked, else-is_picked}
 
 pub loop-key-init : goal.loop-key-init
 unfolding nowhere
 loop-key-init c = (omega arith, lowest-none (picked c.args.free c.args.from) c.args.places.now)
 
 pub loop-key-preserved : goal.loop-key-preserved
-unfolding nowhere
 loop-key-preserved c =
-    let a = c.args in (
-      omega (arith, c.loop-key.invariant.0),
-      rw (
-        ← (lowest-on (picked a.free a.from) a.places.now c.loop-key.key c.loop-key.lowest c.loop-key-test.true c.loop-key.invariant.0 c.loop-key.invariant.1),
-        ← c.is_picked.ensures,
-        ← c.place_if.ensures,
-      )
-          c.lower-lowest.ensures,
-    )
+    let i = c.loop-key.invariant in
+    let on = λ (b : Bool). lowest-on (picked c.args.free c.args.from) c.args.places.now c.loop-key.key c.loop-key.lowest b c.loop-key-test.true i.0 in
+    elim c.if-is_picked.branch [
+      | then-is_picked w ↦ let e = on true (sym c.is_picked.ensures ∙ w.if-is_picked.true) in (omega arith, cc)
+      | else-is_picked w ↦ let e = on false (sym c.is_picked.ensures ∙ w.if-is_picked.false) in (omega arith, cc)
+    ]
 
 pub returns : goal.returns
-unfolding lowest_of
+unfolding nowhere lowest_of
 returns c =
-    let a = c.args in
-    lowest-all (picked a.free a.from) a.places.now c.loop-key.key c.loop-key.lowest c.loop-key-test.false c.loop-key.invariant.1
+    let i = c.loop-key.invariant in
+    let e = lowest-end (picked c.args.free c.args.from) c.args.places.now c.loop-key.key c.loop-key.lowest c.loop-key-test.false i.0 in
+    rw (← i.1, e) (search rules)
