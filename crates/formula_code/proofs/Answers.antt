@@ -1,24 +1,23 @@
 -- What the answer of a formula's reader says of the reading.
-use Prim.Native.Nat.{ℕ}
-use mathlib.Core.Path.{◌≡◌, refl}
-use native.Mathlib.Omega.{arith}
+use Rattle.std.proofs.Common.{◌≡◌, refl, Ok, Err}
 use Rattle.refusal.specs.declared.Refusal.{Refusal}
-use Rattle.refusal.specs.declared.Acceptance.TheVariants.{Accepted, Refused}
 use Rattle.formula.specs.Formula.{Formula}
 use Rattle.formula.specs.Read.{Reading, accepted, refused}
-use Rattle.formula_code.specs.Answer.{answer_of}
+use Rattle.formula_code.specs.declared.FormulaReading.{FormulaReading}
+use Rattle.formula_code.specs.Answer.{reading_of, answer_of}
 
-pub formula-refused : (x : Reading) (r : Refusal) → (answer_of x).acceptance ≡ Refused r → x ≡ refused r
+pub formula-refused : (x : Reading) (r : Refusal) → answer_of x ≡ Err r → x ≡ refused r
 unfolding answer_of
-formula-refused (accepted fm) r e = let z : ◌≡◌ {A = ℕ} 0 1 = cc in absurd (omega arith)
+formula-refused (accepted fm) r e = cc
 formula-refused (refused q) r e = cc
 
--- a reading that was accepted
-pub record FormulaTaken (x : Reading) : Type 0 where
+-- a reading that was accepted, and what is handed on of it
+pub record FormulaTaken (x : Reading) (a : FormulaReading) : Type 0 where
   pub formula : Formula
   pub is : x ≡ accepted formula
+  pub reading : a ≡ reading_of formula
 
-pub formula-taken : (x : Reading) → (answer_of x).acceptance ≡ Accepted → FormulaTaken x
+pub formula-taken : (x : Reading) (a : FormulaReading) → answer_of x ≡ Ok a → FormulaTaken x a
 unfolding answer_of
-formula-taken (accepted fm) e = record { formula = fm; is = refl }
-formula-taken (refused q) e = let z : ◌≡◌ {A = ℕ} 0 1 = cc in absurd (omega arith)
+formula-taken (accepted fm) a e = record { formula = fm; is = refl; reading = cc }
+formula-taken (refused q) a e = cc

@@ -1,20 +1,13 @@
 -- The walk over the commands of a file, one command at a time, and the counts on its way.
-use Prim.Native.Nat.{ℕ, zero, suc, ◌+◌, ◌-◌, ◌*◌, ◌<◌, ◌≤◌}
-use mathlib.Core.Path.{◌≡◌, refl, sym, ap, ◌∙◌, subst}
-use mathlib.Core.Bool.{Bool}
-use mathlib.Core.List.{List}
-use native.Mathlib.Omega.{arith}
-use lib.ListN.{length, take, drop, length-append, length-drop}
-use Rattle.base.proofs.Lists.{rest-drop}
+use Rattle.std.proofs.Common.{◌≡◌, ℕ, zero, suc, ◌+◌, ◌-◌, ◌*◌, ◌<◌, ◌≤◌, Bool, List, length, drop, Option, Some, None, Result, Ok, Err, refl, sym, ap, subst, ◌∙◌, arith, length-append, length-drop, zero-add}
 use Rattle.base.specs.Lists.{Bytes}
+use Rattle.refusal.specs.declared.Refusal.{Refusal}
 use Rattle.formula.specs.Correct.{Exists}
 use Rattle.formula.specs.declared.Summary.{Summary}
-use Rattle.formula_code.specs.declared.Draft.{Draft}
-use Rattle.formula_code.specs.declared.Scan.{Scan}
+use Rattle.formula_code.specs.declared.draft.Draft.{Draft}
 use Rattle.command_reader.specs.declared.Command.{Command as Kept}
 use Rattle.command_reader.specs.declared.Command.TheVariants.{Tied, State, Step, Test, Testv, Bind, Gather, Guard}
-use Rattle.command_reader.specs.declared.Next.{Next as Read}
-use Rattle.command_reader.specs.declared.Next.TheVariants.{Taken, End, Bad}
+use Rattle.command_reader.specs.declared.Taken.{Taken}
 use Rattle.formula.specs.Formula.{TEST, TESTV, BIND, GATHER}
 use Rattle.formula.specs.Encode.{Command, TIED, STATE, STEP, CLAUSE, GUARD, encode_command}
 use Rattle.formula.specs.Read.{Next, command, end, bad, next}
@@ -22,9 +15,7 @@ use Rattle.formula.proofs.Basics.{bytes_drop}
 use Rattle.formula.proofs.Commands.{Fits, Takes, next-taken}
 use Rattle.formula.proofs.Reading.{encode-long}
 use Rattle.command_reader.specs.inner.Take.{command_shape, NextEnd, goes_on, ends, breaks, next_end, next_shape}
-use Rattle.formula_code.specs.inner.Scan.{Counted, Ready, Within, advance_by, kinds_with, table_with, ties_with, count_with, from_with, to_with}
-use Rattle.formula_code.specs.inner.Scan.{bound_with, own_with, places_with, added, empty_draft, arrived, finished_with, onward, next_from, scan_from}
-use Rattle.formula_code.specs.inner.Scan.{scan_file, Scanned}
+use Rattle.formula_code.specs.inner.Scan.{Counted, Ready, Within, advance_by, count_with, added, empty_draft, onward, next_from, scan_from, scan_file, Scanned}
 
 -- the counts stay within theirs
 pub counted-on : (s : Summary) (c : Kept) → Counted s → Ready s c → Counted (advance_by s c)
@@ -91,33 +82,9 @@ most-steps s c k h = most s.states c s.steps h.most k.states k.steps
     most zero c k h m l = omega (arith, h)
     most (suc n) c k h m l = omega (arith, h)
 
--- the draft with other places
-abbrev pub placed : Draft → List ℕ → Draft
-placed d t =
-    record {
-      at = d.at;
-      summary = d.summary;
-      kinds = d.kinds;
-      table = d.table;
-      ties = d.ties;
-      count = d.count;
-      from = d.from;
-      to = d.to;
-      bound = d.bound;
-      own = d.own;
-      places = t;
-    }
-
--- what the reader stores, table by table, is what is kept
-pub added_is : (d : Draft) (c : Kept) (u : ℕ) (t : List ℕ) (s : Summary) (kinds table : List ℕ) (ties : List Bool) (count : ℕ) (from to : List ℕ)
-    (bound own : List Bool) (places : List ℕ)
-    → s ≡ advance_by d.summary c → kinds ≡ kinds_with d.kinds d.summary.states c → table ≡ table_with d.table d.summary d.at c
-    → ties ≡ ties_with d.ties c → count ≡ count_with d.count c
-    → from ≡ from_with d.from d.count d.summary.states c → to ≡ to_with d.to d.count c → bound ≡ bound_with d.bound d.count c
-    → own ≡ own_with d.own c → places ≡ places_with t d.summary.states d.at c
-    → added d c u t ≡ record
-    { at = d.at + u; summary = s; kinds = kinds; table = table; ties = ties; count = count; from = from; to = to; bound = bound; own = own; places = places }
-added_is d c u t s kinds table ties count from to bound own places e₀ e₁ e₂ e₃ e₄ e₅ e₆ e₇ e₈ e₉ = rw (e₀, e₁, e₂, e₃, e₄, e₅, e₆, e₇, e₈, e₉)
+-- what the code reads of a command
+abbrev Read : Type 0
+Read = Result (Option Taken) Refusal
 
 -- END leaves the places as they are
 abbrev Ends : List ℕ → NextEnd → Type 0
@@ -169,62 +136,52 @@ module _ (fields : ℕ) (l : List ℕ) where
   step-on : (d : Draft) (h : SoFar d) (x : NextEnd) → x ≡ next_from fields l d → scan_file fields l ≡ onward (scan_from (h.fuel - 1) fields l) d x
   step-on d h x e = h.is ∙ scan_step h.fuel d (omega (arith, h.enough, h.inside)) ∙ ap (onward (scan_from (h.fuel - 1) fields l) d) (sym e)
 
-  -- what stands next, as the code finds it
-  abbrev found : Draft → NextEnd
-  found d = next_shape (d.summary.states - 1) d.own d.at d.places (next fields d.summary d.at (take (length l - d.at) (drop d.at l)))
+  -- what the code reads, r with the places t, stands next: it reads the part of the file behind the draft
+  pub record Reads (d : Draft) (r : Read) (t : List ℕ) : Type 0 where
+    pub so_far : SoFar d
+    pub next : next_end r t ≡ next_from fields l d
 
-  next-from : (d : Draft) (x : NextEnd) → x ≡ found d → x ≡ next_from fields l d
+  pub reads : (d : Draft) (at : ℕ) (bs : List ℕ) (r : Read) (t : List ℕ) → SoFar d → bs ≡ drop d.at l → at ≡ 0 + d.at
+      → next_end r t ≡ next_shape (d.summary.states - 1) d.own at d.places (next fields d.summary at bs) → Reads d r t
   unfolding next_from
-  next-from d x f = rw (rest-drop l d.at) at f
+  reads d at bs r t h b p e = record { so_far = h; next = e ∙ rw (b, p, zero-add d.at) }
 
-  went_on : (d : Draft) (x : Read) (c : Kept) (u : ℕ) (t : List ℕ) → x ≡ Taken c u → next_end x t ≡ found d → goes_on c u t ≡ next_from fields l d
-  went_on d x c u t q e = next-from d (goes_on c u t) (ap (λ y. next_end y t) (sym q) ∙ e)
+  -- a command: its facts, and the walk goes on behind it
+  pub record Goes (d : Draft) (c : Taken) (t : List ℕ) : Type 0 where
+    pub facts : KeptFacts d.summary c.command c.used (drop d.at l)
+    pub on : SoFar (added d c.command c.used t)
 
-  -- a command was taken: its facts, and the walk goes on behind it
-  pub taken-facts : {d : Draft} {x : Read} {c : Kept} {u : ℕ} (t : List ℕ) → SoFar d → x ≡ Taken c u → next_end x t ≡ found d
-      → KeptFacts d.summary c u (drop d.at l)
-  taken-facts {d} {x} {c} {u} t h q e = subst (Known d.summary (drop d.at l)) (sym (went_on d x c u t q e)) (known_next d h.bytes)
-
-  pub taken-on : {d : Draft} {x : Read} {c : Kept} {u : ℕ} (t : List ℕ) → SoFar d → x ≡ Taken c u → next_end x t ≡ found d → SoFar (added d c u t)
-  taken-on {d} {x} {c} {u} t h q e =
-      let k = taken-facts t h q e in
+  pub taken : (d : Draft) (r : Read) (x : Option Taken) (c : Taken) (t : List ℕ) → Reads d r t → r ≡ Ok x → x ≡ Some c → Goes d c t
+  taken d r x c t h p q =
+      let s = h.so_far in
+      let e : goes_on c.command c.used t ≡ next_from fields l d = ap (λ y. next_end y t) (sym (p ∙ ap Ok q)) ∙ h.next in
+      let k : KeptFacts d.summary c.command c.used (drop d.at l) = subst (Known d.summary (drop d.at l)) (sym e) (known_next d s.bytes) in
       record {
-        bytes = h.bytes;
-        fuel = h.fuel - 1;
-        enough = omega (arith, h.enough, k.some, h.inside);
-        is = step-on d h (goes_on c u t) (went_on d x c u t q e);
-        inside = omega (arith, k.inside, h.inside, length-drop d.at l);
-        counted = counted-on d.summary c h.counted k.ready;
-        within = within_on d.summary d.count c h.counted k.ready h.within;
+        facts = k;
+        on = record {
+          bytes = s.bytes;
+          fuel = s.fuel - 1;
+          enough = omega (arith, s.enough, k.some, s.inside);
+          is = step-on d s (goes_on c.command c.used t) e;
+          inside = omega (arith, k.inside, s.inside, length-drop d.at l);
+          counted = counted-on d.summary c.command s.counted k.ready;
+          within = within_on d.summary d.count c.command s.counted k.ready s.within;
+        };
       }
 
-  -- END or a refusal by its case, as a `let .. else` finds it
-  ends_so : (d : Draft) (x : Read) (t : List ℕ) → SoFar d → next_end x t ≡ next_from fields l d → ((c : Kept) (u : ℕ) → x ≡ Taken c u → ⊥)
-      → finished_with (placed d t) x ≡ scan_file fields l
+  -- END, with the places after it
+  pub ended : (d : Draft) (r : Read) (x : Option Taken) (t : List ℕ) → Reads d r t → r ≡ Ok x → x ≡ None → Scanned fields l (Ok (record d { places = t }))
   unfolding next_from
-  ends_so d (Taken c u) t h e k = absurd (k c u refl)
-  ends_so d End t h e k =
-      let q : t ≡ d.places =
-      subst (Ends d.places) (sym e)
-      (ends_same (d.summary.states - 1) d.own d.at d.places (next fields d.summary d.at (drop d.at l))) in
-      ap (λ p. arrived (placed d p)) q ∙ sym (step-on d h (ends t) e)
-  ends_so d (Bad r) t h e k = sym (step-on d h (breaks r) e)
-
-  -- the answer's counts are those of the draft, or none
-  finished-in : (P : Draft → Type 0) (d : Draft) (x : Read) → P d → P empty_draft → P (finished_with d x).draft
-  finished-in P d (Taken c u) h k = k
-  finished-in P d End h k = h
-  finished-in P d (Bad r) h k = k
-
-  pub scanned : (d : Draft) (x : Read) (t : List ℕ) (r : Scan) → SoFar d → next_end x t ≡ found d → ((c : Kept) (u : ℕ) → x ≡ Taken c u → ⊥)
-      → r ≡ finished_with (placed d t) x → Scanned fields l r
-  unfolding empty_draft
-  scanned d x t r h e k q =
-      let of : (P : Draft → Type 0) → P (placed d t) → P empty_draft → P r.draft =
-      λ P a b. subst (λ (y : Scan). P y.draft) (sym q) (finished-in P (placed d t) x a b) in
+  ended d r x t h p q =
+      let s = h.so_far in
+      let e : ends t ≡ next_from fields l d = ap (λ y. next_end y t) (sym (p ∙ ap Ok q)) ∙ h.next in
+      let same : t ≡ d.places =
+      subst (Ends d.places) (sym e) (ends_same (d.summary.states - 1) d.own d.at d.places (next fields d.summary d.at (drop d.at l))) in
       record {
-        is = q ∙ ends_so d x t h (next-from d (next_end x t) e) k;
-        inside = of (λ y. y.at ≤ length l) h.inside (omega arith);
-        states = of (λ y. y.summary.states ≤ 16) h.counted.states (omega arith);
-        steps = of (λ y. y.count ≤ 128) (most-steps d.summary d.count h.counted h.within) (omega arith);
+        is = ap (λ z. Ok (record d { places = z })) same ∙ sym (step-on d s (ends t) e);
+        sized = record { inside = s.inside; states = s.counted.states; steps = most-steps d.summary d.count s.counted s.within };
       }
+
+  -- a refusal
+  pub broke : (d : Draft) (r : Read) (x : Refusal) (t : List ℕ) → Reads d r t → r ≡ Err x → Scanned fields l (Err x)
+  broke d r x t h q = record { is = sym (step-on d h.so_far (breaks x) (ap (λ y. next_end y t) (sym q) ∙ h.next)); sized = tt }

@@ -12,7 +12,7 @@ use lib.Seq.{get_or-set_same, get_or-set_other, append_snoc}
 use Rattle.base.specs.Lists.{pad}
 use Rattle.base.specs.Mask.{mask}
 use Rattle.base.proofs.Lists.{set-pad}
-use Rattle.formula_code.specs.declared.Draft.{Draft}
+use Rattle.formula_code.specs.declared.draft.Draft.{Draft}
 use Rattle.formula.specs.Formula.{TEST, TESTV, BIND, GATHER, State}
 use Rattle.formula.specs.Encode.{Command, TIED, STATE, STEP, CLAUSE, GUARD, kind_byte, encode_command}
 use Rattle.formula.specs.Lookup.{is_tied, mask_from}

@@ -11,28 +11,26 @@ use native.Mathlib.Numerals.{add-one}
 use borrow.Author.Tests.{lt-ltb}
 use lib.Dec.{ltb}
 use lib.ListN.{length, get_or, drop, replicate, length-append, length-drop}
-use Rattle.base.specs.Lists.{Bytes, pad}
+use Rattle.std.specs.Prelude.{Option as Found, Some, None, Ok, Err}
+use Rattle.std.specs.List.{AllZip}
+use Rattle.base.specs.Lists.{Bytes, pad, some_below}
 use Rattle.base.specs.Mask.{mask}
 use Rattle.refusal.specs.declared.File.TheVariants.{Formula as InFormula}
 use Rattle.refusal.specs.declared.Refusal.{Refusal}
 use Rattle.refusal.specs.declared.Refusal.TheVariants.{Leftover, DeadStart, Unbound as UnboundAt, AbsentState}
-use Rattle.refusal.specs.declared.Acceptance.{Acceptance}
-use Rattle.refusal.specs.declared.Acceptance.TheVariants.{Accepted, Refused}
-use Rattle.refusal.specs.inner.Acceptance.{refusal_of}
-use Rattle.formula_code.specs.declared.Draft.{Draft}
-use Rattle.formula_code.specs.declared.Scan.{Scan}
+use Rattle.formula_code.specs.declared.draft.Draft.{Draft}
 use Rattle.formula.specs.Formula.{TEST, TESTV, BIND, GATHER, State, Formula}
 use Rattle.formula.specs.Encode.{Command, TIED, STATE, STEP, CLAUSE, GUARD, encode_command, commands}
 use Rattle.formula.specs.Unbound.{edges_from, is_unbound}
 use Rattle.formula.specs.Correct.{dead_start}
 use Rattle.formula.specs.Lookup.{step_table, tied_mask}
 use Rattle.formula.specs.declared.Summary.{Summary}
-use Rattle.formula.specs.Read.{accepted, refused, start, assemble, first_absent, first_unbound, refused_at, judge, after_end, seen_after, read_formula}
+use Rattle.formula.specs.Read.{Reading, accepted, refused, start, assemble, first_absent, first_unbound, refused_at, judge, after_end, seen_after, read_formula}
 use Rattle.expression_reader.specs.inner.Places.{nowhere, lowest_of}
 use Rattle.formula_code.specs.inner.Scan.{empty_draft, scan_file, Scanned}
 use Rattle.closure.specs.inner.Reach.{Free}
-use Rattle.formula_code.specs.Answer.{kinds_of, answer_of}
-use Rattle.formula_code.specs.inner.Judge.{accepted_with, judged_with}
+use Rattle.formula_code.specs.Answer.{kinds_of, reading_of, answer_of}
+use Rattle.formula_code.specs.inner.Judge.{reading_from, unless, judged}
 use Rattle.formula.proofs.Assembling.{commands-assemble}
 use Rattle.formula.proofs.Reading.{advances, states-passed, reached-start, Complete, reached-end}
 use Rattle.formula.proofs.Table.{fill, fill-table}
@@ -40,11 +38,12 @@ use Rattle.formula_code.proofs.SameCommands.{add_c, draft_after, final-kind, sum
 use Rattle.formula_code.proofs.Outline.{table-after, kinds-after, mask-after}
 use Rattle.expression_reader.proofs.NotedPlaces.{num, Below}
 use Rattle.formula_code.proofs.FirstBad.{places_from, absent-place, unbound-place, absent-below, unbound-below}
-use Rattle.formula_code.proofs.Edges.{kept, Rep, steps-kept, reach-is}
+use Rattle.formula_code.proofs.Edges.{kept, Same, steps-kept, reach-is}
 
-abbrev Taken? : Acceptance → Type 0
-Taken? Accepted = Unit {0}
-Taken? (Refused r) = ⊥
+-- the answer of a refusal
+answer-of : (x : Reading) (r : Refusal) → x ≡ refused r → Err r ≡ answer_of x
+unfolding answer_of
+answer-of x r e = ap answer_of (sym e)
 
 module _ (fields : ℕ) (l : List ℕ) (bytes : Bytes l) where
   -- the whole file
@@ -52,21 +51,21 @@ module _ (fields : ℕ) (l : List ℕ) (bytes : Bytes l) where
   read-outcome = outcome fields l (suc (length l)) start [] 0 l bytes (reached-start fields l)
 
   -- a walk that is refused, and the definition refuses the file so
-  pub refused-so : (r : Refusal) → (scan_file fields l).acceptance ≡ Refused r → read_formula fields l ≡ refused r
+  pub refused-so : (r : Refusal) → scan_file fields l ≡ Err r → read_formula fields l ≡ refused r
   unfolding read_formula scan_file draft_after
   refused-so r e =
       ⊎_elim
-      (λ (w : Whole fields l (suc (length l)) start [] 0 l). absurd (subst Taken? (sym (ap (λ (x : Scan). x.acceptance) w.scans) ∙ e) tt))
-      (λ (b : Broken fields l (suc (length l)) start [] 0 l). b.reads ∙ ap refused (ap refusal_of (sym b.scans ∙ e)))
+      (λ (w : Whole fields l (suc (length l)) start [] 0 l). let s = w.scans in cc)
+      (λ (b : Broken fields l (suc (length l)) start [] 0 l). let s = b.scans in let t = b.reads in cc)
       read-outcome
 
   -- a walk that reaches END
-  pub whole_of : (scan_file fields l).acceptance ≡ Accepted → Whole fields l (suc (length l)) start [] 0 l
+  pub whole_of : (d : Draft) → scan_file fields l ≡ Ok d → Whole fields l (suc (length l)) start [] 0 l
   unfolding scan_file draft_after
-  whole_of e =
+  whole_of d e =
       ⊎_elim
       (λ (w : Whole fields l (suc (length l)) start [] 0 l). w)
-      (λ (b : Broken fields l (suc (length l)) start [] 0 l). absurd (subst Taken? (sym e ∙ b.scans) tt))
+      (λ (b : Broken fields l (suc (length l)) start [] 0 l). let s = b.scans in cc)
       read-outcome
 
 -- the number of states after one more command
@@ -97,26 +96,26 @@ unfolding after_end
 after_none f at [] h = refl
 after_none f at (b ∷ bs) h = absurd (omega arith)
 
--- whether there is a place
-abbrev given : Option ℕ → Bool
-given none = false
-given (some p) = true
+-- a place of the definition as the code finds it
+abbrev given : Option ℕ → Found ℕ
+given none = None
+given (some p) = Some p
 
 -- a place that was found is below nowhere
-found : (x : Option ℕ) → Below nowhere x → ltb (num x) nowhere ≡ given x
+found : (x : Option ℕ) → Below nowhere x → some_below nowhere (num x) ≡ given x
 unfolding nowhere
 found none h = refl
-found (some p) h = lt-ltb p nowhere h
+found (some p) h = rw (lt-ltb p nowhere h)
 
 -- the answer of the definition's order: absent, dead start, unbound
-judged : (d : Draft) (f : Formula) (x y : Option ℕ) (b : Bool) → accepted_with d ≡ answer_of (accepted f)
-    → cond (given x) (answer_of (refused (AbsentState (num x))))
-    (cond b (answer_of (refused DeadStart)) (cond (given y) (answer_of (refused (UnboundAt (num y)))) (accepted_with d)))
+in-order : (d : Draft) (f : Formula) (x y : Option ℕ) (b : Bool) → reading_from d ≡ reading_of f
+    → unless (given x) AbsentState (cond b (Err DeadStart) (unless (given y) UnboundAt (Ok (reading_from d))))
     ≡ answer_of (refused_at x AbsentState (cond b (refused DeadStart) (refused_at y UnboundAt (accepted f))))
-judged d f (some p) y b e = refl
-judged d f none y true e = refl
-judged d f none (some p) false e = refl
-judged d f none none false e = e
+unfolding answer_of
+in-order d f (some p) y b e = refl
+in-order d f none y true e = refl
+in-order d f none (some p) false e = refl
+in-order d f none none false e = ap Ok e
 
 -- state 0 by its kind's byte
 dead-start : (xs : List State) → 1 ≤ length xs → ltb 1 (get_or (kinds_of xs) 0 0) ≡ dead_start xs
@@ -170,9 +169,9 @@ module _ (fields : ℕ) (l : List ℕ) (w : Whole fields l (suc (length l)) star
   tied_is = mask-after w.es
 
   -- what was kept is the formula's
-  accepted-is : accepted_with draft ≡ answer_of (accepted read_as)
-  unfolding answer_of
-  accepted-is = rw (states-is, kinds-is, table_is, tied_is)
+  reading-is : reading_from draft ≡ reading_of read_as
+  unfolding reading_of
+  reading-is = rw (states-is, kinds-is, table_is, tied_is)
 
   -- the steps were kept, so the marks worked out on them are the definition's
   marks-are : (r : List Bool) → Free (kept draft) r → (v s : ℕ) → v < 8 → s < 16 → get_or r (v * 16 + s) false ≡ is_unbound read_as v s
@@ -180,8 +179,8 @@ module _ (fields : ℕ) (l : List ℕ) (w : Whole fields l (suc (length l)) star
   marks-are r h v s k m =
       h.is v s k m
       ∙ ap (λ z. get_or z s false)
-      (reach-is (kept draft) read_as v k
-      (subst (λ cs. Rep (kept (draft_after empty_draft cs)) (edges_from 0 read_as.states)) same-commands
+      (reach-is v k (kept draft) read_as
+      (subst (λ cs. AllZip Same (kept (draft_after empty_draft cs)) (edges_from 0 read_as.states)) same-commands
       (steps-kept fields read_as complete.formed)))
 
   -- the places are those of the commands
@@ -196,18 +195,21 @@ module _ (fields : ℕ) (l : List ℕ) (w : Whole fields l (suc (length l)) star
 
   -- after END: what is judged is the first absent state, a dead start, the first unbound variable
   judge-is : length l < 2 ^ 64 → (free : List Bool) → Free (kept draft) free
-      → judged_with draft (lowest_of (replicate 128 false) (128 + draft.summary.states) draft.places) (lowest_of free 145 draft.places)
+      → judged draft (some_below nowhere (lowest_of (replicate 128 false) (128 + draft.summary.states) draft.places))
+      (some_below nowhere (lowest_of free 145 draft.places))
       ≡ answer_of (judge read_as)
-  unfolding judged_with judge
+  unfolding judge
   judge-is h free m =
       let n = states-is in
       let cs = w.es in
       let few : length read_as.states ≤ 16 = complete.formed.states in
-      let a : lowest_of (replicate 128 false) (128 + draft.summary.states) draft.places ≡ num (first_absent (length read_as.states) 0 cs) =
+      let x = first_absent (length read_as.states) 0 cs in
+      let y = first_unbound (is_unbound read_as) 0 [] 0 cs in
+      let a : lowest_of (replicate 128 false) (128 + draft.summary.states) draft.places ≡ num x =
       ap (λ k. lowest_of (replicate 128 false) (128 + k) draft.places) n
       ∙ ap (lowest_of (replicate 128 false) (128 + length read_as.states)) places_is
       ∙ absent-place fields (length read_as.states) cs w.reached.operands w.reached.follows few (short h) in
-      let u : lowest_of free 145 draft.places ≡ num (first_unbound (is_unbound read_as) 0 [] 0 cs) =
+      let u : lowest_of free 145 draft.places ≡ num y =
       ap (lowest_of free 145) places_is
       ∙ unbound-place fields free (is_unbound read_as) (marks-are free m) cs w.reached.operands w.reached.follows (short h) in
       let z = ap (λ k. ltb 1 (get_or k 0 0)) kinds-is ∙ dead-start read_as.states complete.formed.nonempty in
@@ -216,54 +218,52 @@ module _ (fields : ℕ) (l : List ℕ) (w : Whole fields l (suc (length l)) star
         u,
         z,
         same-commands,
-        found (first_absent (length read_as.states) 0 cs)
-            (absent-below fields (length read_as.states) cs w.reached.operands w.reached.follows few (short h)),
-        found (first_unbound (is_unbound read_as) 0 [] 0 cs)
-            (unbound-below fields free (is_unbound read_as) (marks-are free m) cs w.reached.operands w.reached.follows (short h)),
+        found x (absent-below fields (length read_as.states) cs w.reached.operands w.reached.follows few (short h)),
+        found y (unbound-below fields free (is_unbound read_as) (marks-are free m) cs w.reached.operands w.reached.follows (short h)),
       )
-      (judged draft read_as (first_absent (length read_as.states) 0 cs) (first_unbound (is_unbound read_as) 0 [] 0 cs) (dead_start read_as.states)
-      accepted-is)
+      (in-order draft read_as x y (dead_start read_as.states) reading-is)
 
 module _ (fields : ℕ) (l : List ℕ) (bytes : Bytes l) where
   -- a refused walk
-  pub answer-refused : (scan : Scan) (r : Refusal) → Scanned fields l scan → scan.acceptance ≡ Refused r
-      → answer_of (refused r) ≡ answer_of (read_formula fields l)
-  answer-refused scan r h e = sym (ap answer_of (refused-so fields l bytes r (ap (λ (x : Scan). x.acceptance) (sym h.is) ∙ e)))
+  pub answer-refused : (r : Refusal) → Scanned fields l (Err r) → Err r ≡ answer_of (read_formula fields l)
+  answer-refused r h = answer-of (read_formula fields l) r (refused-so fields l bytes r (sym h.is))
 
   -- the draft of a walk that reached END
-  module _ (scan : Scan) (h : Scanned fields l scan) (e : scan.acceptance ≡ Accepted) where
+  module _ (d : Draft) (h : Scanned fields l (Ok d)) where
     found-whole : Whole fields l (suc (length l)) start [] 0 l
-    found-whole = whole_of fields l bytes (ap (λ (x : Scan). x.acceptance) (sym h.is) ∙ e)
+    found-whole = whole_of fields l bytes d (sym h.is)
 
-    walked : scan.draft ≡ draft_after empty_draft found-whole.es
+    walked : d ≡ draft_after empty_draft found-whole.es
     unfolding scan_file draft_after
-    walked = ap (λ (x : Scan). x.draft) (h.is ∙ found-whole.scans)
+    walked = let e = h.is ∙ found-whole.scans in cc
 
-    at-is : scan.draft.at ≡ found-whole.place
+    at-is : d.at ≡ found-whole.place
     at-is = ap (λ (x : Draft). x.at) walked ∙ place_is fields l found-whole
 
-    reading-is : read_formula fields l ≡ after_end (assemble found-whole.es) (scan.draft.at + 1) (drop 1 found-whole.left)
+    read-so : read_formula fields l ≡ after_end (assemble found-whole.es) (d.at + 1) (drop 1 found-whole.left)
     unfolding read_formula
-    reading-is = found-whole.reads ∙ ap (λ n. after_end (assemble found-whole.es) (n + 1) (drop 1 found-whole.left)) (sym at-is)
+    read-so = found-whole.reads ∙ ap (λ n. after_end (assemble found-whole.es) (n + 1) (drop 1 found-whole.left)) (sym at-is)
 
-    length-so : length l ≡ scan.draft.at + 1 + length (drop 1 found-whole.left)
+    length-so : length l ≡ d.at + 1 + length (drop 1 found-whole.left)
     length-so = length-is fields l found-whole ∙ ap (λ n. n + 1 + length (drop 1 found-whole.left)) (sym at-is)
 
     -- bytes behind END
-    pub answer-leftover : scan.draft.at + 1 < length l → answer_of (refused (Leftover InFormula (scan.draft.at + 1))) ≡ answer_of (read_formula fields l)
+    pub answer-leftover : d.at + 1 < length l → Err (Leftover InFormula (d.at + 1)) ≡ answer_of (read_formula fields l)
     answer-leftover k =
-        sym
-        (ap answer_of
-        (reading-is ∙ after_more (assemble found-whole.es) (scan.draft.at + 1) (drop 1 found-whole.left) (let n = length-so in omega arith)))
+        answer-of (read_formula fields l) (Leftover InFormula (d.at + 1))
+        (read-so ∙ after_more (assemble found-whole.es) (d.at + 1) (drop 1 found-whole.left) (let n = length-so in omega arith))
 
     -- nothing behind END: what was kept is judged
-    pub answer-judged : length l < 2 ^ 64 → length l ≤ scan.draft.at + 1 → (free : List Bool) → Free (kept scan.draft) free
-        → judged_with scan.draft (lowest_of (replicate 128 false) (128 + scan.draft.summary.states) scan.draft.places)
-        (lowest_of free 145 scan.draft.places)
+    pub answer-judged : length l < 2 ^ 64 → length l ≤ d.at + 1 → (free : List Bool) → Free (kept d) free
+        → judged d (some_below nowhere (lowest_of (replicate 128 false) (128 + d.summary.states) d.places))
+        (some_below nowhere (lowest_of free 145 d.places))
         ≡ answer_of (read_formula fields l)
     answer-judged s k free q =
-        ap (λ (x : Draft). judged_with x (lowest_of (replicate 128 false) (128 + x.summary.states) x.places) (lowest_of free 145 x.places)) walked
+        ap
+        (λ (x : Draft).
+        judged x (some_below nowhere (lowest_of (replicate 128 false) (128 + x.summary.states) x.places))
+        (some_below nowhere (lowest_of free 145 x.places)))
+        walked
         ∙ judge-is fields l found-whole s free (subst (λ (x : Draft). Free (kept x) free) walked q)
         ∙ sym
-        (ap answer_of
-        (reading-is ∙ after_none (assemble found-whole.es) (scan.draft.at + 1) (drop 1 found-whole.left) (let n = length-so in omega arith)))
+        (ap answer_of (read-so ∙ after_none (assemble found-whole.es) (d.at + 1) (drop 1 found-whole.left) (let n = length-so in omega arith)))

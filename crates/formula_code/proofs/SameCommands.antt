@@ -9,20 +9,19 @@ use native.Mathlib.Numerals.{add-one}
 use lib.Dec.{ltb}
 use lib.ListN.{length, drop, length-append}
 use lib.Seq.{drop-append_seam}
+use Rattle.std.specs.Prelude.{Ok, Err}
 use Rattle.base.specs.Lists.{Bytes}
 use Rattle.refusal.specs.declared.File.TheVariants.{Formula as InFormula}
 use Rattle.refusal.specs.declared.Refusal.{Refusal}
 use Rattle.refusal.specs.declared.Refusal.TheVariants.{CutShort}
-use Rattle.refusal.specs.declared.Acceptance.TheVariants.{Refused}
-use Rattle.formula_code.specs.declared.Draft.{Draft}
-use Rattle.formula_code.specs.declared.Scan.{Scan}
+use Rattle.formula_code.specs.declared.draft.Draft.{Draft}
 use Rattle.formula.specs.Formula.{TEST, TESTV, BIND, GATHER, StateKind, ordinary, committed, accept, reject}
 use Rattle.formula.specs.Encode.{Command, TIED, STATE, STEP, CLAUSE, GUARD, kind_byte, encode_command}
 use Rattle.formula.specs.Correct.{is_final}
 use Rattle.formula.specs.declared.Summary.{Summary}
 use Rattle.formula.specs.Read.{refused, start, advance, Next, command, end, bad, next, assemble, after_end, follow, read_from}
 use Rattle.command_reader.specs.inner.Take.{command_shape, guard_noted, next_shape}
-use Rattle.formula_code.specs.inner.Scan.{added, empty_draft, arrived, onward, next_from, scan_from}
+use Rattle.formula_code.specs.inner.Scan.{added, empty_draft, onward, next_from, scan_from}
 use Rattle.formula.proofs.Basics.{bytes_drop}
 use Rattle.formula.proofs.Commands.{Taken, Ended, Takes, next-taken}
 use Rattle.formula.proofs.Reading.{advances, Reached, reached-next}
@@ -90,13 +89,13 @@ pub record Whole (fields : ℕ) (l : List ℕ) (fuel : ℕ) (s : Summary) (cs : 
   pub reached : Reached fields l summary es place left
   pub ended : Ended summary left
   pub reads : read_from fuel fields s cs at rest ≡ after_end (assemble es) (place + 1) (drop 1 left)
-  pub scans : scan_from fuel fields l (draft_after empty_draft cs) ≡ arrived (draft_after empty_draft es)
+  pub scans : scan_from fuel fields l (draft_after empty_draft cs) ≡ Ok (draft_after empty_draft es)
 
 -- the same refusal ends the definition and the walk
 pub record Broken (fields : ℕ) (l : List ℕ) (fuel : ℕ) (s : Summary) (cs : List Command) (at : ℕ) (rest : List ℕ) : Type 0 where
   pub refusal : Refusal
   pub reads : read_from fuel fields s cs at rest ≡ refused refusal
-  pub scans : (scan_from fuel fields l (draft_after empty_draft cs)).acceptance ≡ Refused refusal
+  pub scans : scan_from fuel fields l (draft_after empty_draft cs) ≡ Err refusal
 
 abbrev pub Outcome : ℕ → List ℕ → ℕ → Summary → List Command → ℕ → List ℕ → Type 0
 Outcome fields l fuel s cs at rest = Whole fields l fuel s cs at rest ⊎ Broken fields l fuel s cs at rest
@@ -144,7 +143,7 @@ module _ (fields : ℕ) (l : List ℕ) where
       (record {
         refusal = b.refusal;
         reads = ap (follow (read_from n fields) s cs at rest) e ∙ b.reads;
-        scans = ap (λ (x : Scan). x.acceptance) (scan-on n s cs at rest c u r e h) ∙ b.scans;
+        scans = scan-on n s cs at rest c u r e h ∙ b.scans;
       }))
 
   by_next : (n : ℕ) (s : Summary) (cs : List Command) (at : ℕ) (rest : List ℕ) → Reached fields l s cs at rest → (x : Next)
@@ -170,7 +169,7 @@ module _ (fields : ℕ) (l : List ℕ) where
       (record {
         refusal = q;
         reads = ap (follow (read_from n fields) s cs at rest) e;
-        scans = ap (λ (x : Scan). x.acceptance) (scan-by n s cs at rest (bad q) r e);
+        scans = scan-by n s cs at rest (bad q) r e;
       })
 
   place_same : (s : Summary) (cs : List Command) (at : ℕ) (rest : List ℕ) → Reached fields l s cs at rest → (draft_after empty_draft cs).at ≡ at
@@ -182,7 +181,7 @@ module _ (fields : ℕ) (l : List ℕ) where
       → Outcome fields l n s cs at rest
   unfolding read_from scan_from
   outcome zero s cs at rest b r =
-      inr (record { refusal = CutShort InFormula at; reads = refl; scans = ap (λ n. Refused (CutShort InFormula n)) (place_same s cs at rest r) })
+      inr (record { refusal = CutShort InFormula at; reads = refl; scans = ap (λ n. Err (CutShort InFormula n)) (place_same s cs at rest r) })
   outcome (suc n) s cs at rest b r =
       by_next n s cs at rest r (next fields s at rest) refl (next-taken fields s at rest b)
       (λ c u t. outcome n (advance s c) (cs ++ (c ∷ [])) (at + u) (drop u rest) (bytes_drop u rest b) (reached-next fields l s cs at rest c u r t))

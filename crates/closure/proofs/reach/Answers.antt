@@ -1,33 +1,24 @@
--- `closure::reach` meets its contract: what is left of the rounds, from the marks so far; a round that adds nothing is the last.
-use Prim.Native.Nat.{◌<◌, ◌-◌}
-use mathlib.Core.Path.{sym, ap}
-use native.Mathlib.Omega.{arith}
-use Rattle.closure.specs.inner.Reach.{edges, reach_from, reach_of}
-use Rattle.closure.proofs.Rounds.{reach-on, reach-done, reach-still}
+-- `closure::reach` meets its contract: a round that adds nothing is the last.
+use Rattle.std.proofs.Common.{◌≡◌, ◌-◌, sym, refl, ◌∙◌, arith}
+use Rattle.std.proofs.lemmas.Slice.Eq.{slice_eq-Decides}
+use Rattle.std.specs.Cmp.{booleans_Decides}
+use Rattle.closure.specs.inner.Reach.{reach_of, rounds}
+use Rattle.closure.proofs.Rounds.{rounds-on, rounds-still}
 use Rattle.closure.proofs.reach.Goals as goal
 
 pub loop-n-init : goal.loop-n-init
 unfolding reach_of
-loop-n-init c =
-    let a = c.args in
-    (omega arith, ap (reach_from (edges a.count a.from.now a.to.now a.bound.now) a.v 16) (sym c.with_mark-marks.ensures))
+loop-n-init c = refl
 
-pub returns-then-same_marks : goal.returns-then-same_marks
-returns-then-same_marks c =
-    let a = c.args in
-    reach-still (edges a.count a.from.now a.to.now a.bound.now) a.v (16 - c.loop-n.n) _ c.loop-n.marks _
-    (c.same_marks.ensures.0 c.if-same_marks.true) c.round_of-next.ensures c.loop-n.invariant.1
+pub returns-then-eq : goal.returns-then-eq
+returns-then-eq c =
+    let same = slice_eq-Decides booleans_Decides _ _ _ c.eq.ensures in
+    let still = rounds-still (16 - c.loop-n._n) c.args.v c.args.edges.now c.loop-n.marks (sym c.round_of-next.ensures ∙ same.0 c.if-eq.true) in cc
 
 pub loop-n-preserved : goal.loop-n-preserved
 loop-n-preserved c =
-    let a = c.args in
-    let h : c.loop-n.n < 16 = omega (arith, c.loop-n-test.true) in (
-      omega (arith, h),
-      reach-on (edges a.count a.from.now a.to.now a.bound.now) a.v c.loop-n.n _ c.loop-n.marks _ h
-          c.round_of-next.ensures c.loop-n.invariant.1,
-    )
+    let e = rounds-on c.loop-n._n c.args.v c.args.edges.now c.loop-n.marks (omega arith) in cc
 
 pub returns : goal.returns
-returns c =
-    let a = c.args in
-    reach-done (edges a.count a.from.now a.to.now a.bound.now) a.v c.loop-n.n _ c.loop-n.marks c.loop-n-test.false c.loop-n.invariant.1
+unfolding rounds
+returns c = let none : 16 - c.loop-n._n ≡ 0 = omega arith in sym (rw none at c.loop-n.invariant)

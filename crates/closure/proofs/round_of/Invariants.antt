@@ -1,12 +1,7 @@
--- `closure::round_of` meets its contract: what is left of the round, from the marks so far.
-use Prim.Native.Nat.{◌≤◌, ◌-◌}
-use mathlib.Core.Path.{◌≡◌}
-use Rattle.closure.specs.inner.Reach.{edges, round_from}
+-- `closure::round_of` meets its contract: the marks after the steps so far.
+use Rattle.std.proofs.Common.{◌≡◌, take, fold}
+use Rattle.closure.specs.inner.Reach.{mark}
 use Rattle.closure.proofs.round_of.Given as goal
 
-abbrev pub invariant-loop-i : goal.invariant-loop-i
-invariant-loop-i l =
-    (l.i ≤ l.count) × (round_from (edges l.count l.from l.to l.bound) l.v 0 l.count l.initial.marks ≡ round_from (edges l.count l.from l.to l.bound) l.v l.i (l.count - l.i) l.marks)
-
-abbrev pub decreases-loop-i : goal.decreases-loop-i
-decreases-loop-i l = l.count - l.i
+abbrev pub invariant-loop-edge : goal.invariant-loop-edge
+invariant-loop-edge l = l.marks ≡ fold (mark l.v) l.initial.marks (take l.edge-index l.edges)
