@@ -1,10 +1,10 @@
 -- Evaluating a guard over its bytes: what each test of the code shows, and that on an expression's bytes it is the expression's value.
-use Prim.Native.Nat.{ℕ, zero, suc, ◌+◌, ◌-◌, ◌^◌, ◌<◌, ◌≤◌}
+use Prim.Native.Nat.{ℕ, zero, suc, ◌+◌, ◌-◌, ◌<◌, ◌≤◌}
 use mathlib.Core.Path.{◌≡◌, refl, ap, sym, ◌∙◌}
 use mathlib.Core.Bool.{Bool, true, false}
 use mathlib.Core.List.{List, [], ◌∷◌, ◌++◌, append_assoc}
 use native.Mathlib.Omega.{arith}
-use borrow.Author.Tests.{lt-ltb, le-ltb, le-leb, ne_eqb, ltb-true, ltb-false}
+use borrow.Author.Tests.{lt-ltb, le-leb, ne_eqb, ltb-true, ltb-false}
 use lib.ListN.{length, get_or, take, drop, get_or-append, get_or-eq_default, length-append}
 use lib.Seq.{drop-append_seam, get_or-append-add}
 use lib.Dec.{ltb}
@@ -22,63 +22,9 @@ use Rattle.guard_code.specs.inner.Bytes.{operands_of, applied, leaf_in, leaf_val
 use Rattle.guard_code.specs.inner.Bytes.{evaluated_second, evaluated_first, leaf_or, compound, evaluated}
 use Rattle.guard_code.proofs.Tallies.{sum-at, length_at, different-at}
 
-pub two_operands : (c : ℕ) → (c ≡ 0x28 → ⊥) → 0x23 ≤ c → c < 0x2B → 2 ≡ operands_of c
-unfolding operands_of
-two_operands c n h k = rw (le-ltb c 0x23 h, ne_eqb c 0x28 n, lt-ltb c 0x2B k)
-
-pub no-operands-low : (c : ℕ) → c < 0x23 → 0 ≡ operands_of c
-unfolding operands_of
-no-operands-low c h = rw (lt-ltb c 0x23 h)
-
-pub no-operands-high : (c : ℕ) → 0x2B ≤ c → (c ≡ 0x2B → ⊥) → 0 ≡ operands_of c
-unfolding operands_of
-no-operands-high c h n = rw (le-ltb c 0x23 (omega arith), ne_eqb c 0x28 (λ e. omega arith), le-ltb c 0x2B h, ne_eqb c 0x2B n)
-
-pub used-whole : (part : List ℕ) (w : ℕ) → w ≡ leaf_width (get_or part 0 0) → w ≤ length part → w ≡ leaf_used part
-unfolding leaf_used
-used-whole part w e h = rw (← e) (omega arith)
-
-pub used-cut : (part : List ℕ) (w : ℕ) → w ≡ leaf_width (get_or part 0 0) → length part < w → length part ≡ leaf_used part
-unfolding leaf_used
-used-cut part w e h = rw (← e) (omega arith)
-
 -- a part from k on, as it is lent
 abbrev pub rest : List ℕ → ℕ → List ℕ
 rest l k = take (length l - k) (drop k l)
-
--- a command that has operands is a byte
-pub some_byte : (part : List ℕ) → (operands_of (get_or part 0 0) ≡ 0 → ⊥) → 1 ≤ length part
-some_byte [] h = absurd (h (sym (no-operands-low 0 (omega arith))))
-some_byte (x ∷ xs) h = omega arith
-
--- a leaf takes no more bytes than there are
-pub leaf-within : (part : List ℕ) → leaf_used part ≤ length part
-unfolding leaf_used
-leaf-within part = omega arith
-
--- What the code knows of a command with operands: how deep commands may nest, its byte o, the number n of its operands, and that its
--- bytes can be counted.
-pub record Scene (depth : ℕ) (part : List ℕ) (o n : ℕ) : Type 0 where
-  pub deep : depth ≡ 0 → ⊥
-  pub command : o ≡ get_or part 0 0
-  pub count : n ≡ operands_of o
-  pub some : n ≡ 0 → ⊥
-  pub countable : length part < 2 ^ 64
-
-module _ {depth : ℕ} {part : List ℕ} {o n : ℕ} (s : Scene depth part o n) where
-  -- the number of operands, of the byte that stands there
-  pub counted : n ≡ operands_of (get_or part 0 0)
-  counted = s.count ∙ ap operands_of s.command
-
-  -- its operands begin inside, and are nested less deep
-  pub byte-there : 1 ≤ length part
-  byte-there = some_byte part (λ e. s.some (counted ∙ e))
-
-  pub deeper : (t : ℕ) → depth ≡ t → depth - 1 < t
-  deeper t e = omega (arith, s.deep)
-
-  pub fits : (k : ℕ) → k ≤ length part → k < 2 ^ 64
-  fits k h = omega (arith, s.countable)
 
 -- there is a byte where one is not 0
 pub byte_inside : (f : List ℕ) (at c : ℕ) → c ≡ get_or f at 0 → 0 < c → at < length f
@@ -88,9 +34,14 @@ byte_inside f at c e h = go (ltb at (length f)) refl
     go true q = ltb-true at (length f) q
     go false q = let z : get_or f at 0 ≡ 0 = get_or-eq_default f 0 (ltb-false at (length f) q) in absurd (omega arith)
 
--- the guard at an offset is inside
-pub guard-there : (f : List ℕ) (at : ℕ) {o : ℕ} → o ≡ get_or f at 0 → o ≡ 0x15 → at < length f
-guard-there f at {o} e k = byte_inside f at o e (omega arith)
+-- a command that has operands is a byte
+pub operands_inside : (f : List ℕ) (at : ℕ) → (operands_of (get_or f at 0) ≡ 0 → ⊥) → at < length f
+unfolding operands_of
+operands_inside f at h = byte_inside f at (get_or f at 0) refl (some (get_or f at 0) h)
+  where
+    some : (c : ℕ) → (operands_of c ≡ 0 → ⊥) → 0 < c
+    some zero h = absurd (h refl)
+    some (suc c) h = omega arith
 
 -- the bytes behind a command's first operand, and behind its second
 pub behind-one : (c : ℕ) (xs ys : List ℕ) → drop (1 + length xs) (c ∷ (xs ++ ys)) ≡ ys
@@ -146,7 +97,6 @@ leaf-alone (DIFFERENT v) rest = refl
 
 -- and takes its own bytes
 pub leaf-used : (l : Leaf) (rest : List ℕ) → leaf_used (encode_leaf l ++ rest) ≡ length (encode_leaf l)
-unfolding leaf_used
 leaf-used (CONST x) rest = omega (arith, length-append (bytes_of x) rest, length-bytes x)
 leaf-used (VAR v) rest = omega arith
 leaf-used (COUNT s) rest = omega arith

@@ -1,11 +1,12 @@
 -- Rising and falling over an expression's bytes: what each way through the code computes, and that on an expression's bytes it is the definition's.
-use Prim.Native.Nat.{ℕ, zero, suc, ◌+◌, ◌-◌, ◌^◌, ◌<◌, ◌≤◌}
-use mathlib.Core.Path.{◌≡◌, refl, ap, sym, ◌∙◌}
+use Prim.Native.Nat.{ℕ, zero, suc, ◌+◌, ◌-◌, ◌<◌, ◌≤◌}
+use mathlib.Core.Path.{◌≡◌, refl, ◌∙◌}
 use mathlib.Core.Bool.{Bool, true, false, cond, not, ◌&&◌, ◌||◌}
 use mathlib.Core.List.{List, ◌∷◌, ◌++◌, append_assoc}
 use native.Mathlib.Omega.{arith}
-use borrow.Author.Tests.{ne_eqb, eqb-false}
-use lib.ListN.{length, get_or, drop, length-drop, length-append}
+use borrow.Author.Tests.{ne_eqb}
+use lib.ListN.{length, get_or, drop, length-append}
+use lib.Seq.{drop-drop}
 use lib.Dec.{eqb}
 use Rattle.base.proofs.Lists.{rest-drop}
 use Rattle.event_log.specs.Log.{Kind}
@@ -15,17 +16,17 @@ use Rattle.formula.specs.Correct.{depth, Leaves, LeafExists}
 use Rattle.machine.specs.Configuration.{Config}
 use Rattle.machine.specs.Firing.{is_held}
 use Rattle.machine.specs.Expiry.{first_bind, field_rises, gathers, gathers_rising, leaf_rises, leaf_falls, rising, falling}
-use Rattle.guard_code.specs.declared.Judged.{Judged}
+use Rattle.guard_code.specs.declared.trends.Judged.{Judged}
 use Rattle.guard_code.specs.declared.Marks.{Marks}
 use Rattle.guard_code.specs.inner.Bytes.{operands_of, leaf_used, leaf_marked, turned, kept, judgement, paired, tripled, agreed, judged_both}
 use Rattle.guard_code.specs.inner.Bytes.{judged_second, judged_first, judged_turned, judged, trend_at, falls_at}
-use Rattle.guard_code.proofs.GuardOnBytes.{rest, some_byte, leaf-within, Scene, counted, byte-there, fits, behind-one, behind-two}
+use Rattle.guard_code.proofs.GuardOnBytes.{rest, behind-one, behind-two}
 use Rattle.guard_code.proofs.GuardOnBytes.{leaf-alone, leaf-used, no-depth}
 
 -- with no command allowed there is nothing
-pub judge-none : (depth : ℕ) (mine others : List ℕ → Bool) (part : List ℕ) {r : Judged} → depth ≡ 0 → r ≡ judgement false 0 → r ≡ trend_at depth mine others part
+pub judge-none : (depth : ℕ) (mine others : List ℕ → Bool) (part : List ℕ) → depth ≡ 0 → judgement false 0 ≡ trend_at depth mine others part
 unfolding trend_at
-judge-none depth mine others part h e = rw h e
+judge-none depth mine others part h = rw h
 
 -- one command, its operands judged with one command less nested
 trend-step : (depth : ℕ) (mine others : List ℕ → Bool) (part : List ℕ) → (depth ≡ 0 → ⊥)
@@ -34,216 +35,81 @@ unfolding trend_at
 trend-step zero mine others part h = absurd (h refl)
 trend-step (suc n) mine others part h = let e : suc n - 1 ≡ n = omega arith in rw e
 
--- what a reader gives stays inside what it reads
-abbrev Within : (List ℕ → Judged) → Type 0
-Within read = (l : List ℕ) → (read l).used ≤ length l
+-- a part behind a part, as it is lent
+behind-rest : (part : List ℕ) (j k : ℕ) → rest (drop j part) k ≡ drop (j + k) part
+behind-rest part j k = rest-drop (drop j part) k ∙ drop-drop k j part
 
-module _ (same other : List ℕ → Judged) (within : Within same) (within' : Within other) where
-  both-within : (part : List ℕ) (a b z : Judged) → 1 + a.used + b.used ≤ length part → (judged_both same other part a b z).used ≤ length part
-  unfolding judged_both paired tripled agreed
-  both-within part a b z h = go (eqb (get_or part 0 0) 0x27)
-    where
-      go : (t : Bool)
-          → (cond t (paired (agreed a z) (agreed b (other (drop (1 + a.used) part))))
-          (tripled (agreed a z) b (same (drop (1 + a.used + b.used) part)))).used ≤ length part
-      go true = h
-      go false = let k = within (drop (1 + a.used + b.used) part) in omega (arith, length-drop (1 + a.used + b.used) part)
+-- A command with the byte o, which has n operands, where commands may nest so deep.
+module _ (depth : ℕ) (mine others : List ℕ → Bool) (part : List ℕ) {o n : ℕ} (deep : depth ≡ 0 → ⊥) (byte : o ≡ get_or part 0 0)
+    (count : n ≡ operands_of o) where
+  -- what the judging comes to
+  abbrev answer : Judged
+  answer = trend_at depth mine others part
 
-  second-within : (part : List ℕ) (a b : Judged) → 1 + a.used + b.used ≤ length part → (judged_second same other part a b).used ≤ length part
-  unfolding judged_second paired
-  second-within part a b h = go (kept (get_or part 0 0))
-    where
-      go : (t : Bool) → (cond t (paired a b) (judged_both same other part a b (other (drop 1 part)))).used ≤ length part
-      go true = h
-      go false = both-within part a b (other (drop 1 part)) h
+  -- an operand is judged the same way, and the other way
+  abbrev same_way : List ℕ → Judged
+  same_way = trend_at (depth - 1) mine others
 
-  first-within : (part : List ℕ) (a : Judged) → 1 + a.used ≤ length part → (judged_first same other part a).used ≤ length part
-  unfolding judged_first paired
-  first-within part a h = go (eqb (get_or part 0 0) 0x24)
-    where
-      go : (t : Bool)
-          → (cond t (paired a (other (drop (1 + a.used) part))) (judged_second same other part a (same (drop (1 + a.used) part)))).used ≤ length part
-      go true = let k = within' (drop (1 + a.used) part) in omega (arith, length-drop (1 + a.used) part)
-      go false =
-          second-within part a (same (drop (1 + a.used) part))
-          (let k = within (drop (1 + a.used) part) in omega (arith, length-drop (1 + a.used) part))
+  abbrev other_way : List ℕ → Judged
+  other_way = trend_at (depth - 1) others mine
 
-  turned-within : (part : List ℕ) (a : Judged) → 1 + a.used ≤ length part → (judged_turned same part a).used ≤ length part
-  unfolding judged_turned paired
-  turned-within part a h = go (eqb (operands_of (get_or part 0 0)) 1)
-    where
-      go : (t : Bool) → (cond t (record { yes = a.yes; used = 1 + a.used }) (paired a (same (drop (1 + a.used) part)))).used ≤ length part
-      go true = h
-      go false = let k = within (drop (1 + a.used) part) in omega (arith, length-drop (1 + a.used) part)
-
-  judged-within : (leaf : List ℕ → Bool) → Within (judged same other leaf)
+  pub judge-leaf : {y : Bool} {u : ℕ} → n ≡ 0 → y ≡ mine part → u ≡ leaf_used part → judgement y u ≡ answer
   unfolding judged
-  judged-within leaf part = go (eqb (operands_of (get_or part 0 0)) 0) (turned (get_or part 0 0)) refl
-    where
-      inside : (a : Judged) → eqb (operands_of (get_or part 0 0)) 0 ≡ false → a.used ≤ length (drop 1 part) → 1 + a.used ≤ length part
-      inside a e h = omega (arith, length-drop 1 part, some_byte part (eqb-false _ _ e))
+  judge-leaf h e f = rw (e, f, trend-step depth mine others part deep, ← byte, ← count, h)
 
-      go : (s t : Bool) → eqb (operands_of (get_or part 0 0)) 0 ≡ s
-          → (cond s (judgement (leaf part) (leaf_used part))
-          (cond t (judged_turned same part (other (drop 1 part))) (judged_first same other part (same (drop 1 part))))).used ≤ length part
-      go true t e = leaf-within part
-      go false true e = turned-within part (other (drop 1 part)) (inside (other (drop 1 part)) e (within' (drop 1 part)))
-      go false false e = first-within part (same (drop 1 part)) (inside (same (drop 1 part)) e (within (drop 1 part)))
+  -- a command with operands: they are lent as parts, each behind the one before
+  module _ (some : n ≡ 0 → ⊥) where
+    step : answer
+        ≡ cond (turned o) (judged_turned same_way part (other_way (drop 1 part))) (judged_first same_way other_way part (same_way (drop 1 part)))
+    unfolding judged
+    step = rw (trend-step depth mine others part deep, ← byte, ← count, ne_eqb n 0 some)
 
-trend-within : (n : ℕ) (mine others : List ℕ → Bool) → Within (trend_at n mine others)
-unfolding trend_at
-trend-within zero mine others l = omega arith
-trend-within (suc n) mine others l =
-    judged-within (trend_at n mine others) (trend_at n others mine) (trend-within n mine others) (trend-within n others mine) mine l
+    -- its first operand is judged the other way
+    module _ (turns : turned o ≡ true) {a : Judged} (first : a ≡ other_way (rest part 1)) where
+      turn : answer ≡ judged_turned same_way part a
+      turn = rw (step, turns, first, rest-drop part 1)
 
--- what is judged from k on stays inside
-judged-inside : (n : ℕ) (mine others : List ℕ → Bool) (part : List ℕ) (k : ℕ) (a : Judged) → k ≤ length part → a ≡ trend_at n mine others (rest part k)
-    → k + a.used ≤ length part
-judged-inside n mine others part k a h e =
-    let f : a ≡ trend_at n mine others (drop k part) = e ∙ ap (trend_at n mine others) (rest-drop part k) in
-    let q : a.used ≤ length (drop k part) = rw f (trend-within n mine others (drop k part)) in
-    omega (arith, length-drop k part)
+      pub judge-one : n ≡ 1 → judgement a.yes (1 + a.used) ≡ answer
+      unfolding judged_turned
+      judge-one h = rw (turn, ← byte, ← count, h)
 
--- a command without operands, as the code judges it
-pub judge-leaf : (depth : ℕ) (mine others : List ℕ → Bool) (part : List ℕ) {o n : ℕ} {r : Judged}
-    → (depth ≡ 0 → ⊥) → o ≡ get_or part 0 0 → n ≡ operands_of o → n ≡ 0 → r ≡ judgement (mine part) (leaf_used part) → r ≡ trend_at depth mine others part
-unfolding judged
-judge-leaf depth mine others part some e c h q = rw (trend-step depth mine others part some, ← e, ← c, h) q
+      pub judge-turned : {b : Judged} → (n ≡ 1 → ⊥) → b ≡ same_way (rest (rest part 1) a.used) → paired a b ≡ answer
+      unfolding judged_turned
+      judge-turned h e = rw (turn, ← byte, ← count, ne_eqb n 1 h, e, rest-drop part 1, behind-rest part 1 a.used)
 
--- a judging: what it is called with, and the command's byte and the number of its operands as it has read them
-pub record Judging : Type 0 where
-  pub depth : ℕ
-  pub mine : List ℕ → Bool
-  pub others : List ℕ → Bool
-  pub part : List ℕ
-  pub o : ℕ
-  pub n : ℕ
+    -- or the same way
+    module _ (straight : turned o ≡ false) {a : Judged} (first : a ≡ same_way (rest part 1)) where
+      go-on : answer ≡ judged_first same_way other_way part a
+      go-on = rw (step, straight, first, rest-drop part 1)
 
--- an operand is judged the same way, and the other way
-abbrev pub same_way : Judging → List ℕ → Judged
-same_way x = trend_at (x.depth - 1) x.mine x.others
+      pub judge-sub : {b : Judged} → o ≡ 0x24 → b ≡ other_way (rest (rest part 1) a.used) → paired a b ≡ answer
+      unfolding judged_first
+      judge-sub h e = rw (go-on, ← byte, h, e, rest-drop part 1, behind-rest part 1 a.used)
 
-abbrev pub other_way : Judging → List ℕ → Judged
-other_way x = trend_at (x.depth - 1) x.others x.mine
+      -- and the second too
+      module _ (no-sub : o ≡ 0x24 → ⊥) {b : Judged} (second : b ≡ same_way (rest (rest part 1) a.used)) where
+        both-so : answer ≡ judged_second same_way other_way part a b
+        unfolding judged_first
+        both-so = rw (go-on, ← byte, ne_eqb o 0x24 no-sub, second, rest-drop part 1, behind-rest part 1 a.used)
 
--- what the code knows behind the first operand of a command that turns, and of one that does not; behind the second operand; and
--- behind the first one judged the other way: operands are lent as parts, each behind the one before
-pub record Turned (x : Judging) (a : Judged) : Type 0 where
-  pub scene : Scene x.depth x.part x.o x.n
-  pub turns : turned x.o ≡ true
-  pub first : a ≡ other_way x (rest x.part 1)
+        pub judge-keep : kept o ≡ true → paired a b ≡ answer
+        unfolding judged_second
+        judge-keep h = rw (both-so, ← byte, h)
 
-pub record Straight (x : Judging) (a : Judged) : Type 0 where
-  pub scene : Scene x.depth x.part x.o x.n
-  pub straight : turned x.o ≡ false
-  pub first : a ≡ same_way x (rest x.part 1)
+        -- and the first the other way besides
+        module _ (mixes : kept o ≡ false) {z : Judged} (again : z ≡ other_way (rest part 1)) where
+          first-both : answer ≡ judged_both same_way other_way part a b z
+          unfolding judged_second
+          first-both = rw (both-so, ← byte, mixes, again, rest-drop part 1)
 
-pub record Second (x : Judging) (a b : Judged) : Type 0 where
-  pub before : Straight x a
-  pub no_sub : x.o ≡ 0x24 → ⊥
-  pub second : b ≡ same_way x (rest x.part (1 + a.used))
+          pub judge-equal : {y : Judged} → o ≡ 0x27 → y ≡ other_way (rest (rest part 1) a.used) → paired (agreed a z) (agreed b y) ≡ answer
+          unfolding judged_both
+          judge-equal h e = rw (first-both, ← byte, h, e, rest-drop part 1, behind-rest part 1 a.used)
 
-pub record Both (x : Judging) (a b z : Judged) : Type 0 where
-  pub before : Second x a b
-  pub mixes : kept x.o ≡ false
-  pub again : z ≡ other_way x (rest x.part 1)
-
--- what the judging comes to
-abbrev answer : Judging → Judged
-answer x = trend_at x.depth x.mine x.others x.part
-
-here : (read : List ℕ → Judged) (part : List ℕ) (k : ℕ) (a : Judged) → a ≡ read (rest part k) → read (drop k part) ≡ a
-here read part k a e = sym (e ∙ ap read (rest-drop part k))
-
--- judging an operand both ways takes its bytes once
-agreed-used : (a z u : Judged) → u ≡ agreed a z → u.used ≡ a.used
-unfolding agreed
-agreed-used a z u e = rw e
-
-module _ {x : Judging} where
-  pub turned-inside : {a : Judged} → Turned x a → 1 + a.used ≤ length x.part
-  turned-inside {a} p = judged-inside (x.depth - 1) x.others x.mine x.part 1 a (byte-there p.scene) p.first
-
-  pub straight-inside : {a : Judged} → Straight x a → 1 + a.used ≤ length x.part
-  straight-inside {a} p = judged-inside (x.depth - 1) x.mine x.others x.part 1 a (byte-there p.scene) p.first
-
-  -- an operand behind the first one, judged either way
-  pub turned-fits : {a b : Judged} → Turned x a → b ≡ same_way x (rest x.part (1 + a.used)) → 1 + a.used + b.used < 2 ^ 64
-  turned-fits {a} {b} p e = fits p.scene _ (judged-inside (x.depth - 1) x.mine x.others x.part (1 + a.used) b (turned-inside p) e)
-
-  pub sub-fits : {a b : Judged} → Straight x a → b ≡ other_way x (rest x.part (1 + a.used)) → 1 + a.used + b.used < 2 ^ 64
-  sub-fits {a} {b} p e = fits p.scene _ (judged-inside (x.depth - 1) x.others x.mine x.part (1 + a.used) b (straight-inside p) e)
-
-  pub second-inside : {a b : Judged} → Second x a b → 1 + a.used + b.used ≤ length x.part
-  second-inside {a} {b} p = judged-inside (x.depth - 1) x.mine x.others x.part (1 + a.used) b (straight-inside p.before) p.second
-
-  pub second_fits : {a b : Judged} → Second x a b → 1 + a.used + b.used < 2 ^ 64
-  second_fits p = fits p.before.scene _ (second-inside p)
-
-  pub equal-fits : {a b z u v : Judged} (y : Judged) → Both x a b z → u ≡ agreed a z → v ≡ agreed b y → 1 + u.used + v.used < 2 ^ 64
-  equal-fits {a} {b} {z} {u} {v} y p e f = omega (arith, second_fits p.before, agreed-used a z u e, agreed-used b y v f)
-
-  pub if-fits : {a b z d u : Judged} → Both x a b z → u ≡ agreed a z → d ≡ same_way x (rest x.part (1 + a.used + b.used))
-      → 1 + u.used + b.used + d.used < 2 ^ 64
-  if-fits {a} {b} {z} {d} {u} p e f =
-      let k = judged-inside (x.depth - 1) x.mine x.others x.part (1 + a.used + b.used) d (second-inside p.before) f in
-      omega (arith, fits p.before.before.scene _ k, agreed-used a z u e)
-
-  turn : {a : Judged} → Turned x a → answer x ≡ judged_turned (same_way x) x.part a
-  unfolding judged
-  turn {a} p =
-      let s = p.scene in
-      let t : turned (get_or x.part 0 0) ≡ true = ap turned (sym s.command) ∙ p.turns in
-      rw (
-        trend-step x.depth x.mine x.others x.part s.deep,
-        ← counted s,
-        ne_eqb x.n 0 s.some,
-        t,
-        here (other_way x) x.part 1 a p.first,
-      )
-
-  pub judge-one : {a r : Judged} → Turned x a → x.n ≡ 1 → r ≡ judgement a.yes (1 + a.used) → r ≡ answer x
-  unfolding judged_turned
-  judge-one p h q = rw (turn p, ← counted p.scene, h) q
-
-  pub judge-turned : {a b r : Judged} → Turned x a → (x.n ≡ 1 → ⊥) → b ≡ same_way x (rest x.part (1 + a.used)) → r ≡ paired a b → r ≡ answer x
-  unfolding judged_turned
-  judge-turned {a} {b} p h e q = rw (turn p, ← counted p.scene, ne_eqb x.n 1 h, here (same_way x) x.part (1 + a.used) b e) q
-
-  straight : {a : Judged} → Straight x a → answer x ≡ judged_first (same_way x) (other_way x) x.part a
-  unfolding judged
-  straight {a} p =
-      let s = p.scene in
-      let t : turned (get_or x.part 0 0) ≡ false = ap turned (sym s.command) ∙ p.straight in
-      rw (trend-step x.depth x.mine x.others x.part s.deep, ← counted s, ne_eqb x.n 0 s.some, t, here (same_way x) x.part 1 a p.first)
-
-  pub judge-sub : {a b r : Judged} → Straight x a → x.o ≡ 0x24 → b ≡ other_way x (rest x.part (1 + a.used)) → r ≡ paired a b → r ≡ answer x
-  unfolding judged_first
-  judge-sub {a} {b} p h e q = rw (straight p, ← p.scene.command, h, here (other_way x) x.part (1 + a.used) b e) q
-
-  second : {a b : Judged} → Second x a b → answer x ≡ judged_second (same_way x) (other_way x) x.part a b
-  unfolding judged_first
-  second {a} {b} p =
-      rw (straight p.before, ← p.before.scene.command, ne_eqb x.o 0x24 p.no_sub, here (same_way x) x.part (1 + a.used) b p.second)
-
-  pub judge-keep : {a b r : Judged} → Second x a b → kept x.o ≡ true → r ≡ paired a b → r ≡ answer x
-  unfolding judged_second
-  judge-keep p h q = rw (second p, ← p.before.scene.command, h) q
-
-  third : {a b z : Judged} → Both x a b z → answer x ≡ judged_both (same_way x) (other_way x) x.part a b z
-  unfolding judged_second
-  third {a} {b} {z} p = rw (second p.before, ← p.before.before.scene.command, p.mixes, here (other_way x) x.part 1 z p.again)
-
-  pub judge-equal : {a b z y u v r : Judged} → Both x a b z → x.o ≡ 0x27 → y ≡ other_way x (rest x.part (1 + a.used))
-      → u ≡ agreed a z → v ≡ agreed b y → r ≡ paired u v → r ≡ answer x
-  unfolding judged_both
-  judge-equal {a} {b} {z} {y} p h e f g q = rw (third p, ← p.before.before.scene.command, h, here (other_way x) x.part (1 + a.used) y e, ← f, ← g) q
-
-  pub judge-if : {a b z d u r : Judged} → Both x a b z → (x.o ≡ 0x27 → ⊥) → d ≡ same_way x (rest x.part (1 + a.used + b.used))
-      → u ≡ agreed a z → r ≡ tripled u b d → r ≡ answer x
-  unfolding judged_both
-  judge-if {a} {b} {z} {d} p h e f q =
-      rw (third p, ← p.before.before.scene.command, ne_eqb x.o 0x27 h, here (same_way x) x.part (1 + a.used + b.used) d e, ← f) q
+          pub judge-if : {d : Judged} → (o ≡ 0x27 → ⊥) → d ≡ same_way (rest (rest (rest part 1) a.used) b.used) → tripled (agreed a z) b d ≡ answer
+          unfolding judged_both
+          judge-if h e =
+              rw (first-both, ← byte, ne_eqb o 0x27 h, e, rest-drop part 1, behind-rest part 1 a.used, behind-rest part (1 + a.used) b.used)
 
 -- the guard at an offset, as the code judges it
 pub falls-read : (falls rises : List ℕ → Bool) (f : List ℕ) (at : ℕ) {o : ℕ} {a : Judged} → o ≡ get_or f at 0 → o ≡ 0x15
@@ -276,30 +142,30 @@ module _ (same other : List ℕ → Judged) (leaf : List ℕ → Bool) where
   turned-judged : (c : ℕ) (x y : Bool) (a b l : List ℕ) → operands_of c ≡ 2 → turned c ≡ true → Gives other (a ++ (b ++ l)) x (length a)
       → Gives same (b ++ l) y (length b)
       → Gives (judged same other leaf) (c ∷ ((a ++ b) ++ l)) (x && y) (length (c ∷ (a ++ b)))
-  unfolding judged judged_turned paired
+  unfolding judged judged_turned
   turned-judged c x y a b l o t e f = rw (append_assoc a b l, o, t, e, behind-one c a (b ++ l), f, two-length a b)
 
   sub-judged : (x y : Bool) (a b l : List ℕ) → Gives same (a ++ (b ++ l)) x (length a) → Gives other (b ++ l) y (length b)
       → Gives (judged same other leaf) (0x24 ∷ ((a ++ b) ++ l)) (x && y) (length (0x24 ∷ (a ++ b)))
-  unfolding judged judged_first operands_of turned paired
+  unfolding judged judged_first operands_of turned
   sub-judged x y a b l e f = rw (append_assoc a b l, e, behind-one 0x24 a (b ++ l), f, two-length a b)
 
   kept-judged : (c : ℕ) (x y : Bool) (a b l : List ℕ) → operands_of c ≡ 2 → turned c ≡ false → eqb c 0x24 ≡ false → kept c ≡ true
       → Gives same (a ++ (b ++ l)) x (length a) → Gives same (b ++ l) y (length b)
       → Gives (judged same other leaf) (c ∷ ((a ++ b) ++ l)) (x && y) (length (c ∷ (a ++ b)))
-  unfolding judged judged_first judged_second paired
+  unfolding judged judged_first judged_second
   kept-judged c x y a b l o t s k e f = rw (append_assoc a b l, o, t, s, k, e, behind-one c a (b ++ l), f, two-length a b)
 
   equal-judged : (x y z w : Bool) (a b l : List ℕ) → Gives same (a ++ (b ++ l)) x (length a) → Gives other (a ++ (b ++ l)) z (length a)
       → Gives same (b ++ l) y (length b) → Gives other (b ++ l) w (length b)
       → Gives (judged same other leaf) (0x27 ∷ ((a ++ b) ++ l)) ((x && z) && (y && w)) (length (0x27 ∷ (a ++ b)))
-  unfolding judged judged_first judged_second judged_both operands_of turned kept paired agreed
+  unfolding judged judged_first judged_second judged_both operands_of turned kept
   equal-judged x y z w a b l e g f h = rw (append_assoc a b l, e, behind-one 0x27 a (b ++ l), f, g, h, two-length a b)
 
   if-judged : (x y z w : Bool) (a b d l : List ℕ) → Gives same (a ++ (b ++ (d ++ l))) x (length a) → Gives other (a ++ (b ++ (d ++ l))) z (length a)
       → Gives same (b ++ (d ++ l)) y (length b) → Gives same (d ++ l) w (length d)
       → Gives (judged same other leaf) (0x2B ∷ ((a ++ (b ++ d)) ++ l)) ((x && z) && (y && w)) (length (0x2B ∷ (a ++ (b ++ d))))
-  unfolding judged judged_first judged_second judged_both operands_of turned kept tripled agreed
+  unfolding judged judged_first judged_second judged_both operands_of turned kept
   if-judged x y z w a b d l e g f h =
       rw
       (append_assoc a (b ++ d) l, append_assoc b d l, e, behind-one 0x2B a (b ++ (d ++ l)), f, g, behind-two 0x2B a b (d ++ l), h, three-length a b d)

@@ -1,3 +1,3 @@
 -- Vocabulary of inner contracts; nothing to be believed stands here.
 pub mod Bytes
-pub mod Packed
+pub mod Reading

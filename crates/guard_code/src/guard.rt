@@ -1,251 +1,196 @@
 // The value of a guard, by recursion over its bytes.
-ghost use Rattle.std.specs.Prelude.{◌≡◌, ◌-◌, ◌+◌, ◌%◌, ◌/◌, ◌<◌, ◌≤◌, min, get_or, length, drop};
+ghost use Rattle.std.specs.Prelude.{◌≡◌, ◌+◌, ◌≤◌, ◌++◌, length, take, drop, IfSome};
+ghost use Rattle.base.specs.Lists.{some_below};
 ghost use Rattle.guard_code.specs.inner.Bytes.{operands_of, applied, leaf_first, leaf_in, leaf_value, leaf_width, leaf_used, compound, evaluated, guard_at};
-ghost use Rattle.guard_code.specs.inner.Packed.{most, Packed, ConstantPacked, LeafPacked, Laid};
+ghost use Rattle.guard_code.specs.inner.Reading.{placed, constant_placed, leaf_placed};
 ghost use Rattle.machine.specs.Guard.{truth};
 
-// "ADD stops at 4294967295".
-pub fn sum(a: u32, b: u32) -> u32
-    ensures { result ≡ min (a + b) 4294967295 }
-{
-    if b <= 4294967295 - a {
-        a + b
-    } else {
-        4294967295
-    }
-}
+use crate::commands::{
+    ADD, AND, ATMOST, CONST, COUNT, DIFFERENT, EQUAL, GUARD, IF, LESS, NOT, OR, SUB, SUM, VAR,
+};
 
-// "SUB at 0".
-pub fn difference(a: u32, b: u32) -> u32
-    ensures { result ≡ a - b }
-{
-    if b <= a { a - b } else { 0 }
+// An expression's value, and the place behind it.
+#[derive(Clone, Copy)]
+struct Reading {
+    value: u32,
+    next: usize,
 }
 
 // The number of operands of an expression command, 0 for any other byte.
+#[tactic(auto, unfolding(crate::specs::inner::Bytes::operands_of))]
 pub fn operand_count(command: u32) -> usize
     ensures { result ≡ operands_of command }
 {
     match command {
-        0x28 => 1,
-        0x2B => 3,
-        0x23..=0x2A => 2,
+        NOT => 1,
+        IF => 3,
+        ADD..=OR => 2,
         _ => 0,
     }
 }
 
-// What a command makes of its operands' values. "LESS to OR give 0 or 1".
+// What a command makes of its operands' values. "ADD stops at 4294967295", "SUB at 0", "LESS to OR give 0 or 1".
+#[tactic(auto, unfolding(crate::specs::inner::Bytes::applied))]
 fn apply(command: u32, a: u32, b: u32, d: u32) -> u32
     ensures { result ≡ applied command a b d }
 {
     match command {
-        0x23 => sum(a, b),
-        0x24 => difference(a, b),
-        0x25 => base::bit_of(a < b),
-        0x26 => base::bit_of(a <= b),
-        0x27 => base::bit_of(a == b),
-        0x28 => base::bit_of(!(0 < a)),
-        0x29 => { if 0 < a { base::bit_of(0 < b) } else { 0 } }
-        0x2A => { if 0 < a { 1 } else { base::bit_of(0 < b) } }
-        _ => { if 0 < a { b } else { d } }
+        ADD => a.saturating_add(b),
+        SUB => a.saturating_sub(b),
+        LESS => u32::from(a < b),
+        ATMOST => u32::from(a <= b),
+        EQUAL => u32::from(a == b),
+        NOT => u32::from(a == 0),
+        AND => u32::from(0 < a && 0 < b),
+        OR => u32::from(0 < a || 0 < b),
+        _ => if 0 < a { b } else { d },
     }
 }
 
-// The value of a variable or a field, a state's counter or a list's tally, by its number; 0 where there is none.
-pub fn value_of(values: &[u32], n: u32) -> u32
-    ensures { result ≡ get_or values.now n 0 }
+// Where among the leaves' values a command without operands counts its operand from. A list is written 8 + v.
+fn first_of(command: u32) -> Option<usize>
+    ensures { result ≡ some_below 36 (leaf_first command) }
 {
-    let i = n as usize;
-    if i < values.len() { values[i] } else { 0 }
-}
-
-// Where among the leaves' values a command without operands counts its operand from, 36 for any other byte. A list is written 8 + v.
-fn first_of(command: u32) -> usize
-    ensures { result ≡ leaf_first command }
-{
-    if command == 0x22 {
-        return 20;
+    match command {
+        COUNT => Some(20),
+        VAR => Some(0),
+        SUM..=DIFFERENT => Some((command - SUM) as usize * 4),
+        _ => None,
     }
-    if command == 0x21 {
-        return 0;
-    }
-    if command < 0x2C {
-        return 36;
-    }
-    if 0x2E < command {
-        return 36;
-    }
-    (command - 0x2C) as usize * 4
 }
 
 // The width of a command without operands, 0 for any other byte.
 fn leaf_width(command: u32) -> usize
     ensures { result ≡ leaf_width command }
 {
-    if command == 0x20 {
+    if command == CONST {
         return 5;
     }
-    if first_of(command) == 36 { 0 } else { 2 }
+    if first_of(command).is_some() { 2 } else { 0 }
 }
 
 // The bytes of the command without operands at the front, as far as there are any.
 pub fn leaf_used(part: &[u8]) -> usize
     ensures { result ≡ leaf_used part.now }
 {
-    let width = leaf_width(base::byte_at(part, 0));
-    if width <= part.len() {
-        width
-    } else {
-        part.len()
+    leaf_width(base::byte_at(part, 0)).min(part.len())
+}
+
+// The constant at an offset, where it is there whole.
+fn constant(part: &[u8], at: usize) -> Option<Reading>
+    requires { at ≤ length part.now }
+    ensures value { result ≡ constant_placed at part.now }
+    ensures within { IfSome result (λ r. r.next ≤ length part.now) }
+{
+    if part.len() - at < 5 {
+        return None;
     }
+    Some(Reading {
+        value: base::value_inside(part, at + 1),
+        next: at + 5,
+    })
 }
 
-// An expression's value and the place behind it in one number, which a register holds.
-fn pack(value: u32, next: usize) -> usize
-    requires { next < 4294967296 }
-    ensures { (result % 4294967296 ≡ value) × (result / 4294967296 ≡ next) }
+// The command without operands at an offset, where one stands there whole.
+// The bytes and the leaves' values are passed each for itself: in one struct that is lent they took 4 % more instructions.
+fn leaf(part: &[u8], at: usize, leaves: &[u32; 36]) -> Option<Reading>
+    requires { at ≤ length part.now }
+    ensures value { result ≡ leaf_placed at (leaf_in leaves.now) (drop at part.now) }
+    ensures within { IfSome result (λ r. r.next ≤ length part.now) }
 {
-    next * 4294967296 + value as usize
-}
-
-// The value in such a number.
-fn value_in(r: usize) -> u32
-    ensures { result ≡ r % 4294967296 }
-{
-    (r % 4294967296) as u32
-}
-
-// The place in such a number.
-fn next_in(r: usize) -> usize
-    ensures { result ≡ r / 4294967296 }
-{
-    r / 4294967296
-}
-
-// The constant at an offset and the place behind it; 0 where it is cut short.
-fn constant(part: &[u8], at: usize) -> usize
-    requires { at + 5 < 4294967296 }
-    ensures { ConstantPacked result at part.now }
-{
-    if part.len() < at + 5 {
-        return 0;
+    if part.len() - at < 2 {
+        return None;
     }
-    pack(base::value_inside(part, at + 1), at + 5)
-}
-
-// The value of the command without operands at an offset and the place behind it; 0 where none stands there whole.
-fn leaf(part: &[u8], at: usize, leaves: &[u32; 36]) -> usize
-    requires { (at + 5 < 4294967296) × (length leaves.now ≡ 36) }
-    ensures { LeafPacked result at (leaf_in leaves.now) (drop at part.now) }
-{
-    if part.len() <= at + 1 {
-        return 0;
-    }
-    let command = base::wide(part[at]);
-    if command == 0x20 {
+    let command = u32::from(part[at]);
+    if command == CONST {
         return constant(part, at);
     }
-    let first = first_of(command);
-    if first == 36 {
-        return 0;
-    }
-    let i = first + base::wide(part[at + 1]) as usize;
-    if i < 36 {
-        return pack(leaves[i], at + 2);
-    }
-    pack(0, at + 2)
+    let first = first_of(command)?;
+    Some(Reading {
+        value: base::get_or(leaves, first + usize::from(part[at + 1]), 0),
+        next: at + 2,
+    })
 }
 
-// The value of the command with operands at an offset and the place behind it; at most so many such commands nested.
-fn evaluate(part: &[u8], at: usize, leaves: &[u32; 36], depth: usize) -> usize
-    requires { (at + most depth < 4294967296) × (length leaves.now ≡ 36) }
-    ensures { Packed result at (compound depth (leaf_in leaves.now) (drop at part.now)) }
+// The command with operands at an offset; at most so many such commands nested.
+#[cycle(evaluate)]
+#[tactic(auto, using(crate::proofs::GuardOnBytes::operands_inside))]
+fn evaluate(part: &[u8], at: usize, leaves: &[u32; 36], depth: usize) -> Reading
+    requires { at ≤ length part.now }
+    ensures value { result ≡ placed at (compound depth (leaf_in leaves.now) (drop at part.now)) }
+    ensures within { result.next ≤ length part.now }
 {
     if depth == 0 {
-        return pack(0, at);
+        return Reading { value: 0, next: at };
     }
     let command = base::byte_at(part, at);
     if operand_count(command) == 0 {
-        return pack(0, at);
+        return Reading { value: 0, next: at };
     }
     let inner = depth - 1;
-    let first = at + 1;
-    let mut a = leaf(part, first, leaves);
-    if a == 0 {
-        a = evaluate(part, first, leaves, inner);
+    let a = operand(part, at + 1, leaves, inner);
+    if command == NOT {
+        return Reading {
+            value: apply(NOT, a.value, 0, 0),
+            next: a.next,
+        };
     }
-    let second = next_in(a);
-    if command == 0x28 {
-        return pack(apply(0x28, value_in(a), 0, 0), second);
+    let b = operand(part, a.next, leaves, inner);
+    if command == IF {
+        let d = operand(part, b.next, leaves, inner);
+        return Reading {
+            value: apply(IF, a.value, b.value, d.value),
+            next: d.next,
+        };
     }
-    let mut b = leaf(part, second, leaves);
-    if b == 0 {
-        b = evaluate(part, second, leaves, inner);
+    Reading {
+        value: apply(command, a.value, b.value, 0),
+        next: b.next,
     }
-    let third = next_in(b);
-    if command == 0x2B {
-        let mut d = leaf(part, third, leaves);
-        if d == 0 {
-            d = evaluate(part, third, leaves, inner);
-        }
-        return pack(
-            apply(0x2B, value_in(a), value_in(b), value_in(d)),
-            next_in(d),
-        );
-    }
-    pack(apply(command, value_in(a), value_in(b), 0), third)
 }
 
-// The value of the operand at an offset, a command with or without operands, and the place behind it.
-fn operand(part: &[u8], at: usize, leaves: &[u32; 36], depth: usize) -> usize
-    requires { (at + most depth < 4294967296) × (length leaves.now ≡ 36) }
-    ensures { Packed result at (evaluated depth (leaf_in leaves.now) (drop at part.now)) }
+// The operand at an offset, a command with or without operands. Put in line, so that a leaf is read without a call.
+#[cycle(evaluate)]
+#[inline(always)]
+fn operand(part: &[u8], at: usize, leaves: &[u32; 36], depth: usize) -> Reading
+    requires { at ≤ length part.now }
+    ensures value { result ≡ placed at (evaluated depth (leaf_in leaves.now) (drop at part.now)) }
+    ensures within { result.next ≤ length part.now }
 {
-    let a = leaf(part, at, leaves);
-    if a == 0 {
-        return evaluate(part, at, leaves, depth);
+    match leaf(part, at, leaves) {
+        Some(a) => a,
+        None => evaluate(part, at, leaves, depth),
     }
-    a
 }
 
 // Whether the expression at an offset is nonzero. AND, OR and IF read no operand that their first makes needless.
 fn holds_at(part: &[u8], at: usize, leaves: &[u32; 36], depth: usize) -> bool
-    requires { (at + most depth < 4294967296) × (length leaves.now ≡ 36) }
+    requires { at ≤ length part.now }
     ensures { result ≡ truth (evaluated depth (leaf_in leaves.now) (drop at part.now)).value }
 {
     let command = base::byte_at(part, at);
-    if 0 < depth && 0x29 <= command && command <= 0x2B {
-        let inner = depth - 1;
-        let a = operand(part, at + 1, leaves, inner);
-        let second = next_in(a);
-        if value_in(a) == 0 {
-            if command == 0x29 {
-                return false;
-            }
-            if command == 0x2A {
-                return holds_at(part, second, leaves, inner);
-            }
-            let b = operand(part, second, leaves, inner);
-            return holds_at(part, next_in(b), leaves, inner);
-        }
-        if command == 0x2A {
-            return true;
-        }
-        return holds_at(part, second, leaves, inner);
+    if depth == 0 || command < AND || IF < command {
+        return 0 < operand(part, at, leaves, depth).value;
     }
-    0 < value_in(operand(part, at, leaves, depth))
+    let inner = depth - 1;
+    let a = operand(part, at + 1, leaves, inner);
+    match (command, 0 < a.value) {
+        (AND, false) => false,
+        (OR, true) => true,
+        (IF, false) => {
+            let b = operand(part, a.next, leaves, inner);
+            holds_at(part, b.next, leaves, inner)
+        }
+        _ => holds_at(part, a.next, leaves, inner),
+    }
 }
 
-// The leaves' values with more of them, behind the first n.
-fn lay(leaves: &mut [u32; 36], n: usize, more: &[u32])
-    requires { n + length more.now ≤ 36 }
-    ensures { Laid n more.now leaves.old leaves.new }
+// Writes values among the leaves', from the nth on.
+fn lay(leaves: &mut [u32; 36], n: usize, values: &[u32])
+    requires { n + length values.now ≤ 36 }
+    ensures { leaves.new ≡ take n leaves.old ++ (values.now ++ drop (n + length values.now) leaves.old) }
 {
-    let mut i: usize = 0;
-    while i < more.len() {
-        leaves[n + i] = more[i];
-        i += 1;
-    }
+    leaves[n..n + values.len()].copy_from_slice(values);
 }
 
 // Whether the guard at an offset is nonzero; where none stands, true.
@@ -259,14 +204,12 @@ pub fn guard_holds(
     ensures { result ≡ guard_at (leaf_value values counters tallies) f.now at }
 {
     let command = base::byte_at(f, at);
-    if command == 0x15 {
+    if command == GUARD {
         let mut leaves = [0u32; 36];
         lay(&mut leaves, 0, &values);
         lay(&mut leaves, 8, &tallies);
         lay(&mut leaves, 20, &counters);
-        let from = at + 1;
-        let part = &f[from..];
-        return holds_at(part, 0, &leaves, 8);
+        return holds_at(&f[at + 1..], 0, &leaves, 8);
     }
     true
 }

@@ -1,6 +1,7 @@
 // Guards over the formula's bytes: the value of an expression, and whether it is rising or falling.
 #![tactic(auto)]
 
+mod commands;
 pub mod guard;
 pub mod trends;
 
@@ -10,11 +11,4 @@ pub struct Marks {
     pub variables: [bool; 8],
     pub sums: [bool; 4],
     pub differents: [bool; 4],
-}
-
-// Whether an expression is rising, or falling, and the bytes that it took.
-#[derive(Clone, Copy)]
-struct Judged {
-    yes: bool,
-    used: usize,
 }

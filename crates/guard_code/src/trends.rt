@@ -1,194 +1,133 @@
 // "Rising and falling are worked out on the expression, each from the other", by recursion over its bytes.
-ghost use Rattle.std.specs.Prelude.{◌≡◌, false, ◌+◌, ◌^◌, ◌<◌, get_or};
+ghost use Rattle.std.specs.Prelude.{◌≡◌, ◌+◌, ◌^◌, ◌<◌, ◌≤◌, length};
 ghost use Rattle.guard_code.specs.inner.Bytes.{leaf_used, leaf_marked, turned, kept, judgement, paired, agreed, tripled, trend_at, falls_at};
 
-use crate::guard::{difference, leaf_used, operand_count};
-use crate::{Judged, Marks};
+use crate::commands::{ADD, AND, ATMOST, DIFFERENT, EQUAL, GUARD, LESS, NOT, OR, SUB, SUM, VAR};
+use crate::guard::{leaf_used, operand_count};
+use crate::Marks;
+
+// Whether an expression is rising, or falling, and the bytes that it took.
+#[derive(Clone, Copy)]
+struct Judged {
+    yes: bool,
+    used: usize,
+}
+
+impl Judged {
+    // A command of two operands that are both so.
+    fn pair(self, b: Judged) -> Judged
+        requires { 1 + self.used + b.used < 2 ^ 64 }
+        ensures { result ≡ paired self b }
+    {
+        Judged {
+            yes: self.yes && b.yes,
+            used: 1 + self.used + b.used,
+        }
+    }
+
+    // A command of three operands that are all so.
+    fn triple(self, b: Judged, d: Judged) -> Judged
+        requires { 1 + self.used + b.used + d.used < 2 ^ 64 }
+        ensures { result ≡ tripled self b d }
+    {
+        Judged {
+            yes: self.yes && b.yes && d.yes,
+            used: 1 + self.used + b.used + d.used,
+        }
+    }
+
+    // One operand judged both ways.
+    fn agree(self, z: Judged) -> Judged
+        ensures { result ≡ agreed self z }
+    {
+        Judged {
+            yes: self.yes && z.yes,
+            ..self
+        }
+    }
+}
 
 // LESS, ATMOST and NOT: the first operand is judged the other way.
+#[tactic(auto, unfolding(crate::specs::inner::Bytes::turned))]
 fn turns(command: u32) -> bool
     ensures { result ≡ turned command }
 {
-    match command {
-        0x25 => true,
-        0x26 => true,
-        0x28 => true,
-        _ => false,
-    }
+    matches!(command, LESS | ATMOST | NOT)
 }
 
 // "ADD, AND, OR keep what both operands are".
+#[tactic(auto, unfolding(crate::specs::inner::Bytes::kept))]
 fn keeps(command: u32) -> bool
     ensures { result ≡ kept command }
 {
-    match command {
-        0x23 => true,
-        0x29 => true,
-        0x2A => true,
-        _ => false,
-    }
-}
-
-// A judgement of an expression of so many bytes.
-fn judge(flag: bool, used: usize) -> Judged
-    ensures { result ≡ judgement flag used }
-{
-    Judged { yes: flag, used }
-}
-
-// A variable's, a field's or a list's mark, false where there is none.
-pub fn mark_of(marks: &[bool], n: u32) -> bool
-    ensures { result ≡ get_or marks.now n false }
-{
-    let i = n as usize;
-    if i < marks.len() { marks[i] } else { false }
+    matches!(command, ADD | AND | OR)
 }
 
 // "constants, counters .. are both", and a length; any other leaf is what its mark says.
-fn marked(part: &[u8], marks: Marks) -> bool
-    ensures { result ≡ leaf_marked marks part.now }
+#[tactic(auto, unfolding(crate::specs::inner::Bytes::leaf_marked))]
+fn marked(part: &[u8], marks: &Marks) -> bool
+    ensures { result ≡ leaf_marked marks.now part.now }
 {
-    let command = base::byte_at(part, 0);
-    let operand = base::byte_at(part, 1);
-    let variables = marks.variables;
-    let sums = marks.sums;
-    let differents = marks.differents;
-    match command {
-        0x21 => mark_of(&variables, operand),
-        0x2C => mark_of(&sums, difference(operand, 8)),
-        0x2E => mark_of(&differents, difference(operand, 8)),
+    let operand = base::byte_at(part, 1) as usize;
+    match base::byte_at(part, 0) {
+        VAR => base::get_or(&marks.variables, operand, false),
+        SUM => base::get_or(&marks.sums, operand.saturating_sub(8), false),
+        DIFFERENT => base::get_or(&marks.differents, operand.saturating_sub(8), false),
         _ => true,
     }
 }
 
-// A command without operands, judged.
-fn leaf(part: &[u8], marks: Marks) -> Judged
-    ensures { result ≡ judgement (leaf_marked marks part.now) (leaf_used part.now) }
-{
-    Judged {
-        yes: marked(part, marks),
-        used: leaf_used(part),
-    }
-}
-
-// A command of two operands that are both so, and one of three.
-fn pair(a: Judged, b: Judged) -> Judged
-    requires { 1 + a.used + b.used < 2 ^ 64 }
-    ensures { result ≡ paired a b }
-{
-    Judged {
-        yes: base::both(a.yes, b.yes),
-        used: 1 + a.used + b.used,
-    }
-}
-
-fn triple(a: Judged, b: Judged, d: Judged) -> Judged
-    requires { 1 + a.used + b.used + d.used < 2 ^ 64 }
-    ensures { result ≡ tripled a b d }
-{
-    Judged {
-        yes: base::both(a.yes, base::both(b.yes, d.yes)),
-        used: 1 + a.used + b.used + d.used,
-    }
-}
-
-// One operand judged both ways.
-fn agree(a: Judged, z: Judged) -> Judged
-    ensures { result ≡ agreed a z }
-{
-    Judged {
-        yes: base::both(a.yes, z.yes),
-        used: a.used,
-    }
-}
-
-// Whether the expression at the front is rising; `grows` marks the leaves that are.
-#[cycle(falling_at_rising_at)]
-fn rising_at(part: &[u8], held: Marks, grows: Marks, depth: usize) -> Judged
-    ensures { result ≡ trend_at depth (leaf_marked grows) (leaf_marked held) part.now }
+// Whether the expression at the front is so, rising or falling: `own` marks the leaves that are, `other` those that are the other.
+#[tactic(auto, using(crate::proofs::GuardOnBytes::operands_inside))]
+fn trend_at(part: &[u8], own: &Marks, other: &Marks, depth: usize) -> Judged
+    ensures judged { result ≡ trend_at depth (leaf_marked own.now) (leaf_marked other.now) part.now }
+    ensures within { result.used ≤ length part.now }
 {
     if depth == 0 {
-        return judge(false, 0);
+        return Judged {
+            yes: false,
+            used: 0,
+        };
     }
     let command = base::byte_at(part, 0);
     let operands = operand_count(command);
     if operands == 0 {
-        return leaf(part, grows);
+        return Judged {
+            yes: marked(part, own),
+            used: leaf_used(part),
+        };
     }
     let inner = depth - 1;
+    let first = &part[1..];
     if turns(command) {
-        let a = falling_at(&part[1..], held, grows, inner);
-        let at = 1 + a.used;
+        let a = trend_at(first, other, own, inner);
         if operands == 1 {
-            return judge(a.yes, at);
+            return Judged {
+                used: 1 + a.used,
+                ..a
+            };
         }
-        return pair(a, rising_at(&part[at..], held, grows, inner));
+        return a.pair(trend_at(&first[a.used..], own, other, inner));
     }
-    let a = rising_at(&part[1..], held, grows, inner);
-    let at = 1 + a.used;
-    if command == 0x24 {
-        return pair(a, falling_at(&part[at..], held, grows, inner));
+    let a = trend_at(first, own, other, inner);
+    let second = &first[a.used..];
+    if command == SUB {
+        return a.pair(trend_at(second, other, own, inner));
     }
-    let b = rising_at(&part[at..], held, grows, inner);
+    let b = trend_at(second, own, other, inner);
     if keeps(command) {
-        return pair(a, b);
+        return a.pair(b);
     }
-    let c = agree(a, falling_at(&part[1..], held, grows, inner));
-    if command == 0x27 {
-        return pair(c, agree(b, falling_at(&part[at..], held, grows, inner)));
+    let c = a.agree(trend_at(first, other, own, inner));
+    if command == EQUAL {
+        return c.pair(b.agree(trend_at(second, other, own, inner)));
     }
-    let last = at + b.used;
-    triple(c, b, rising_at(&part[last..], held, grows, inner))
-}
-
-// Whether it is falling; `held` marks the leaves that are.
-#[cycle(falling_at_rising_at)]
-fn falling_at(part: &[u8], held: Marks, grows: Marks, depth: usize) -> Judged
-    ensures { result ≡ trend_at depth (leaf_marked held) (leaf_marked grows) part.now }
-{
-    if depth == 0 {
-        return judge(false, 0);
-    }
-    let command = base::byte_at(part, 0);
-    let operands = operand_count(command);
-    if operands == 0 {
-        return leaf(part, held);
-    }
-    let inner = depth - 1;
-    if turns(command) {
-        let a = rising_at(&part[1..], held, grows, inner);
-        let at = 1 + a.used;
-        if operands == 1 {
-            return judge(a.yes, at);
-        }
-        return pair(a, falling_at(&part[at..], held, grows, inner));
-    }
-    let a = falling_at(&part[1..], held, grows, inner);
-    let at = 1 + a.used;
-    if command == 0x24 {
-        return pair(a, rising_at(&part[at..], held, grows, inner));
-    }
-    let b = falling_at(&part[at..], held, grows, inner);
-    if keeps(command) {
-        return pair(a, b);
-    }
-    let c = agree(a, rising_at(&part[1..], held, grows, inner));
-    if command == 0x27 {
-        return pair(c, agree(b, rising_at(&part[at..], held, grows, inner)));
-    }
-    let last = at + b.used;
-    triple(c, b, falling_at(&part[last..], held, grows, inner))
+    c.triple(b, trend_at(&second[b.used..], own, other, inner))
 }
 
 // Whether the guard at an offset is falling; where none stands, none falls.
 pub fn guard_falls(f: &[u8], at: usize, held: Marks, grows: Marks) -> bool
     ensures { result ≡ falls_at (leaf_marked held) (leaf_marked grows) f.now at }
 {
-    let command = base::byte_at(f, at);
-    if command == 0x15 {
-        let from = at + 1;
-        let j = falling_at(&f[from..], held, grows, 8);
-        return j.yes;
-    }
-    false
+    base::byte_at(f, at) == GUARD && trend_at(&f[at + 1..], &held, &grows, 8).yes
 }

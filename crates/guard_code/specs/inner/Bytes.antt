@@ -2,7 +2,7 @@
 use Rattle.std.specs.Prelude.{ℕ, zero, suc, ◌+◌, ◌-◌, ◌*◌, min, Bool, true, false, not, ◌&&◌, ◌||◌, cond, List, ◌++◌, length, get_or, drop, ltb, leb, eqb}
 use Rattle.base.specs.Lists.{pad}
 use Rattle.base.specs.Value.{value_at}
-use Rattle.guard_code.specs.declared.Judged.{Judged}
+use Rattle.guard_code.specs.declared.trends.Judged.{Judged}
 use Rattle.guard_code.specs.declared.Marks.{Marks}
 use Rattle.base.specs.Mask.{bit}
 use Rattle.machine.specs.Guard.{truth}
@@ -40,7 +40,7 @@ leaf_value values counters tallies = leaf_in (pad 8 0 values ++ (pad 12 0 tallie
 abbrev pub leaf_width : ℕ → ℕ
 leaf_width c = cond (eqb c 0x20) 5 (cond (eqb (leaf_first c) 36) 0 2)
 
-unfoldable pub leaf_used : List ℕ → ℕ
+abbrev pub leaf_used : List ℕ → ℕ
 leaf_used part = min (leaf_width (get_or part 0 0)) (length part)
 
 -- its bytes, where they are all there; else 0
@@ -109,13 +109,13 @@ leaf_marked marks part =
     true))
 
 -- a command of two operands that are both so, one of three, and one operand judged both ways
-unfoldable pub paired : Judged → Judged → Judged
+abbrev pub paired : Judged → Judged → Judged
 paired a b = record { yes = a.yes && b.yes; used = 1 + a.used + b.used }
 
-unfoldable pub tripled : Judged → Judged → Judged → Judged
+abbrev pub tripled : Judged → Judged → Judged → Judged
 tripled a b d = record { yes = a.yes && (b.yes && d.yes); used = 1 + a.used + b.used + d.used }
 
-unfoldable pub agreed : Judged → Judged → Judged
+abbrev pub agreed : Judged → Judged → Judged
 agreed a z = record { yes = a.yes && z.yes; used = a.used }
 
 -- one command, its operands judged the same way by `same` and the other way by `other`: EQUAL and IF need their first operand

@@ -1,4 +1,4 @@
--- `guard::holds_at` meets its contract: AND, OR and IF by their first operand, any other command by its value. The measure is the depth.
+-- `guard::holds_at` ends by the depth.
 use Rattle.guard_code.proofs.guard.+holds_at.Given as goal
 
 abbrev pub decreases-holds_at : goal.decreases-holds_at

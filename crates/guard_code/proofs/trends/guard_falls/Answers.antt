@@ -1,24 +1,11 @@
 -- `trends::guard_falls` meets its contract: the guard is lent as the part behind its command.
-use native.Mathlib.Omega.{arith}
+use mathlib.Core.Path.{◌∙◌}
+use borrow.Author.Tests.{ne_eqb}
 use Rattle.guard_code.proofs.TrendOnBytes.{falls-read, falls-none}
-use Rattle.guard_code.proofs.GuardOnBytes.{guard-there}
 use Rattle.guard_code.proofs.trends.guard_falls.Goals as goal
 
-pub overflow_add-from : goal.overflow_add-from
-overflow_add-from c =
-    omega (arith, guard-there c.args.f.now c.args.at c.byte_at-command.ensures.0 c.if-command-eq21.true, c.well_formed)
+pub returns-then-byte_at-eq-GUARD : goal.returns-then-byte_at-eq-GUARD
+returns-then-byte_at-eq-GUARD c = falls-read _ _ _ _ c.byte_at.ensures.0 c.if-byte_at-eq-GUARD.true c.trend_at.ensures.judged
 
-pub slice_bounds-falling_at-count : goal.slice_bounds-falling_at-count
-slice_bounds-falling_at-count c =
-    omega (arith, guard-there c.args.f.now c.args.at c.byte_at-command.ensures.0 c.if-command-eq21.true, c.well_formed)
-
-pub slice_bounds-falling_at-start : goal.slice_bounds-falling_at-start
-slice_bounds-falling_at-start c =
-    omega (arith, guard-there c.args.f.now c.args.at c.byte_at-command.ensures.0 c.if-command-eq21.true, c.well_formed)
-
-pub returns-then-command-eq21 : goal.returns-then-command-eq21
-returns-then-command-eq21 c =
-    falls-read _ _ _ _ c.byte_at-command.ensures.0 c.if-command-eq21.true c.falling_at-j.ensures
-
-pub returns : goal.returns
-returns c = falls-none _ _ _ _ c.byte_at-command.ensures.0 c.if-command-eq21.false
+pub returns-else-byte_at-eq-GUARD : goal.returns-else-byte_at-eq-GUARD
+returns-else-byte_at-eq-GUARD c = ne_eqb _ 0x15 c.if-byte_at-eq-GUARD.false ∙ falls-none _ _ _ _ c.byte_at.ensures.0 c.if-byte_at-eq-GUARD.false
