@@ -4,7 +4,7 @@ use mathlib.Core.Path.{◌≡◌, refl, ap, sym, subst, ◌∙◌}
 use mathlib.Core.Bool.{Bool, true, false, cond, not, ◌&&◌, ◌||◌, true≢false}
 use mathlib.Core.List.{List}
 use native.Mathlib.Omega.{arith}
-use borrow.Author.Tests.{not-true}
+use borrow.Author.Tests.{ne_eqb}
 use lib.ListN.{length, get_or}
 use lib.Dec.{eqb, ltb, leb}
 use Rattle.event_log.specs.Log.{Values}
@@ -16,8 +16,8 @@ use Rattle.machine_code.specs.declared.Walked.{Walked}
 use Rattle.machine_code.specs.inner.Bytes.{missed_by, is_clause, width_of, tested, holding, bound, noted, met, clause_on, clause_at, begun, gained, kept, lapsed}
 use Rattle.machine_code.specs.inner.Bytes.{falls_behind}
 use Rattle.machine_code.specs.inner.Marks.{ages_at}
-use Rattle.machine_code.proofs.ClausesOnBytes.{either, clause-inside, walking-done, walked_from}
-use Rattle.machine_code.proofs.EventAlone.{width-clause, clause-width, wide-there, Standing, stand-start, stand-on}
+use Rattle.machine_code.proofs.ClausesOnBytes.{either, walking-done, walked_from}
+use Rattle.machine_code.proofs.EventAlone.{clause-width, Standing, stand-start, stand-on}
 use Rattle.machine_code.proofs.ExpiryOnBytes.{lapsed-not}
 
 -- a walk that is not past due
@@ -70,38 +70,26 @@ module _ (f : List ℕ) (rises : List Bool) (at : ℕ) where
   unfolding begun
   lasting-start latest c = stand-start Early f latest at c rises refl
 
-  -- the clause as the code reads it
-  module _ (place taken command : ℕ) (e₁ : command ≡ get_or f place 0) (e₂ : taken ≡ width_of command) where
-    -- a clause stands inside
-    pub wide-inside : (taken ≡ 0 → ⊥) → place < length f
-    wide-inside n = clause-inside f place (width-clause (get_or f place 0) (wide-there f place taken command e₁ e₂ n))
+  -- over a clause
+  pub lasting-on : (place : ℕ) → (width_of (get_or f place 0) ≡ 0 → ⊥) → ages_at f (get_or f place 0) place rises ≡ false → Lasting f rises at place
+      → Lasting f rises at (place + width_of (get_or f place 0))
+  lasting-on place n k l latest c =
+      let s = l latest c in
+      let a : ages_at f (get_or f s.w.at 0) s.w.at rises ≡ false = rw s.stands k in
+      stand-on Early f latest at c rises place n s (clause-early f c.values rises latest s.w a s.so)
 
-    pub lasting-on : (taken ≡ 0 → ⊥) → ages_at f command place rises ≡ false → Lasting f rises at place → Lasting f rises at (place + taken)
-    lasting-on n k l latest c =
-        let s = l latest c in
-        let a : ages_at f (get_or f s.w.at 0) s.w.at rises ≡ false = rw (s.stands, ← e₁) k in
-        let e : taken ≡ width_of (get_or f place 0) = e₂ ∙ ap width_of e₁ in
-        subst (λ t. Standing Early f latest at (place + t) c rises) (sym e)
-        (stand-on Early f latest at c rises place (wide-there f place taken command e₁ e₂ n) s (clause-early f c.values rises latest s.w a s.so))
-
-    -- behind the clauses, where no guard stands
-    pub lasting-end : at < length f → taken ≡ 0 → Lasting f rises at place → not (eqb command 0x15) ≡ true → (fresh : List Bool) (c : Configuration) (latest : Values)
-        → lapsed f at c fresh rises latest ≡ false
-    unfolding falls_at
-    lasting-end i z l g fresh c latest =
-        let s = l latest c in
-        let stop : is_clause (get_or f s.w.at 0) ≡ false =
-        not-true-false _ (λ (h : is_clause (get_or f s.w.at 0) ≡ true).
-        let m = clause-width (get_or f s.w.at 0) h in
-        let o : width_of (get_or f s.w.at 0) ≡ taken = rw (s.stands, ← e₁, ← e₂) in
-        omega (arith, m, o, z)) in
-        let e = walked_from f at c rises latest (begun at c) s.w refl (walking-done f c.values rises latest (begun at c) s.w s.walking stop) in
-        let b : Gained = cond s.w.gathers (gained f at c.tallies fresh rises latest) (kept c.tallies) in
-        let q : false ≡ falls_behind f s.w.at c.held s.w.grows b = rw (s.stands, ← e₁, not-true (eqb command 0x15) g) in
-        sym (lapsed-not f at c fresh rises latest s.w i e b refl false s.so q refl)
-
--- whether a clause can be missed, as the code reads it
-pub ages-read : (f : List ℕ) (rises : List Bool) (c p k o : ℕ) (t l m b r : Bool) → t ≡ (eqb c 0x12 || eqb c 0x13) → o ≡ get_or f (p + 2) 0
-    → l ≡ (eqb o 2 || eqb o 4) → k ≡ get_or f (p + 1) 0 → m ≡ get_or rises k false → b ≡ (l && m) → r ≡ (t && b) → r ≡ ages_at f c p rises
-unfolding ages_at
-ages-read f rises c p k o t l m b r e₁ e₂ e₃ e₄ e₅ e₆ e₇ = rw (← e₂, ← e₄, ← e₁, ← e₃, ← e₅, ← e₆) e₇
+  -- behind the clauses, where no guard stands
+  pub lasting-end : (place : ℕ) → at < length f → width_of (get_or f place 0) ≡ 0 → Lasting f rises at place → (get_or f place 0 ≡ 0x15 → ⊥)
+      → (fresh : List Bool) (c : Configuration) (latest : Values) → lapsed f at c fresh rises latest ≡ false
+  unfolding falls_at
+  lasting-end place i z l g fresh c latest =
+      let s = l latest c in
+      let stop : is_clause (get_or f s.w.at 0) ≡ false =
+      not-true-false _ (λ (h : is_clause (get_or f s.w.at 0) ≡ true).
+      let m = clause-width (get_or f s.w.at 0) h in
+      let o : width_of (get_or f s.w.at 0) ≡ 0 = rw s.stands z in
+      omega (arith, m, o)) in
+      let e = walked_from f at c rises latest (begun at c) s.w refl (walking-done f c.values rises latest (begun at c) s.w s.walking stop) in
+      let b : Gained = cond s.w.gathers (gained f at c.tallies fresh rises latest) (kept c.tallies) in
+      let q : false ≡ falls_behind f s.w.at c.held s.w.grows b = rw (s.stands, ne_eqb (get_or f place 0) 0x15 g) in
+      sym (lapsed-not f at c fresh rises latest i s.w e b refl false s.so q refl)

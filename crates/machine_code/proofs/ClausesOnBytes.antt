@@ -16,6 +16,7 @@ use Rattle.machine_code.specs.declared.Configuration.{Configuration}
 use Rattle.machine_code.specs.declared.Walked.{Walked}
 use Rattle.machine_code.specs.inner.Bytes.{holds_by, missed_by, is_clause, tested, holding, bound, noted, met, clause_on, clause_at}
 use Rattle.machine_code.specs.inner.Bytes.{walk_from, begun, walked}
+use Rattle.machine_code.specs.inner.Walking.{Walking}
 
 -- what holds of two walks holds of either
 pub either : (P : Walked → Type 0) (t : Bool) (a b : Walked) → P a → P b → P (cond t a b)
@@ -164,12 +165,6 @@ clause-progress f prior rises event w =
     either (λ d. w.at + 3 ≤ d.at) (eqb c 0x12) _ _ (omega arith)
     (either (λ d. w.at + 3 ≤ d.at) (eqb c 0x13) _ _ (omega arith)
     (either (λ d. w.at + 3 ≤ d.at) (eqb c 0x17) _ _ (omega arith) (omega arith)))
-
--- a walk from v on that stands at w: what is left to walk is what was left from v
-pub record Walking (f prior : List ℕ) (rises : List Bool) (event : Values) (v w : Walked) : Type 0 where
-  pub left : ℕ
-  pub enough : length f < left + w.at
-  pub ahead : walk_from (suc (length f)) f prior rises event v ≡ walk_from left f prior rises event w
 
 module _ (f prior : List ℕ) (rises : List Bool) (event : Values) (v : Walked) where
   pub walking_start : Walking f prior rises event v v

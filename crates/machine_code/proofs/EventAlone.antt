@@ -14,14 +14,14 @@ use Rattle.event_log.specs.Log.{Values, present, field}
 use Rattle.event_log.specs.Event.{together}
 use Rattle.event_log.proofs.Fields.{present-together}
 use Rattle.machine_code.specs.declared.Configuration.{Configuration}
-use Rattle.machine_code.specs.declared.Fired.{Fired}
 use Rattle.machine_code.specs.declared.Walked.{Walked}
 use Rattle.machine_code.specs.inner.Bytes.{holds_by, missed_by, is_clause, width_of, tested, holding, bound, noted, met, clause_on, clause_at, walk_from, begun}
-use Rattle.machine_code.specs.inner.Bytes.{walked, fired, lapsed}
+use Rattle.machine_code.specs.inner.Bytes.{walked, Firing, fired, lapsed}
 use Rattle.base.proofs.Tests.{and-false, or_right}
 use Rattle.runs.proofs.Moves.{and_both}
 use Rattle.machine_code.specs.inner.Marks.{fails_at, misses_at, denies_at, Reaches, begins, onward}
-use Rattle.machine_code.proofs.ClausesOnBytes.{either, clause-gather, clause-in, clause-low, clause-high, Walking, walking_start, walking-more}
+use Rattle.machine_code.specs.inner.Walking.{Walking}
+use Rattle.machine_code.proofs.ClausesOnBytes.{either, clause-gather, clause-in, clause-low, clause-high, walking_start, walking-more}
 
 and-fails : (a b : Bool) → a ≡ false → (a && b) ≡ false
 and-fails a b h = rw h
@@ -94,6 +94,19 @@ module _ (f prior : List ℕ) (rises : List Bool) (event : Values) where
 
   walk-due : (n : ℕ) (w : Walked) → w.due ≡ true → (walk_from n f prior rises event w).due ≡ true
   walk-due = walk-keeps Late (clause-keeps Late met-due test-due note-due bind-due f prior rises event)
+
+-- a walk that stops on its way, for what it tells there
+module _ (f : List ℕ) (at : ℕ) (c : Configuration) (rises : List Bool) (event : Values) (Q : Walked → Type 0)
+    (h : (w : Walked) × Walking f c.values rises event (begun at c) w × Q w) where
+  stopped : (P : Walked → Type 0) → ((w : Walked) → P w → P (clause_at f c.values rises event w)) → ((w : Walked) → Q w → P w) → P (walked f at c rises event)
+  unfolding walked
+  stopped P keeps says = rw h.1.ahead (walk-keeps f c.values rises event P keeps h.1.left h.0 (says h.0 h.2))
+
+  pub stopped-fails : ((w : Walked) → Q w → w.passes ≡ false) → (walked f at c rises event).passes ≡ false
+  stopped-fails = stopped Failed (clause-keeps Failed met-fails test-fails note-fails bind-fails f c.values rises event)
+
+  pub stopped-due : ((w : Walked) → Q w → w.due ≡ true) → (walked f at c rises event).due ≡ true
+  stopped-due = stopped Late (clause-keeps Late met-due test-due note-due bind-due f c.values rises event)
 
 -- a clause's command, and where the walk stands behind it
 pub width-clause : (c : ℕ) → (width_of c ≡ 0 → ⊥) → is_clause c ≡ true
@@ -194,11 +207,6 @@ module _ (f prior : List ℕ) (rises : List Bool) (event : Values) (w : Walked) 
       let p = and_both (eqb (get_or f w.at 0) 0x12) _ h in
       rw p.0 (or_right w.due _ p.1)
 
--- a clause as the code reads it
-pub wide-there : (f : List ℕ) (place taken command : ℕ) → command ≡ get_or f place 0 → taken ≡ width_of command → (taken ≡ 0 → ⊥)
-    → width_of (get_or f place 0) ≡ 0 → ⊥
-wide-there f place taken command e₁ e₂ n = rw (← e₁, ← e₂) n
-
 -- what a configuration holds, the walk holds on, with its value
 abbrev pub Keeps : Configuration → Walked → Type 0
 Keeps c w = (v : ℕ) → get_or c.held v false ≡ true → (get_or w.held v false ≡ true) × (get_or w.values v 0 ≡ get_or c.values v 0)
@@ -297,37 +305,34 @@ module _ (f : List ℕ) (event : Values) (at : ℕ) where
       = ap (λ (v : Walked). v.passes) q.ahead ∙ walk-fails f c.values (replicate 8 false) event q.left _ k in
       go (leb (length f) at) _ _ refl (and-fails _ _ p)
     where
-      go : (t : Bool) (a d : Fired) → a.fires ≡ false → d.fires ≡ false → (cond t a d).fires ≡ false
+      go : (t : Bool) (a d : Firing) → a.fires ≡ false → d.fires ≡ false → (cond t a d).fires ≡ false
       go true a d h k = h
       go false a d h k = k
 
-  module _ (place taken command : ℕ) (e₁ : command ≡ get_or f place 0) (e₂ : taken ≡ width_of command) (n : taken ≡ 0 → ⊥) (r : Reached f event at place) where
-    wide : width_of (get_or f place 0) ≡ 0 → ⊥
-    wide = wide-there f place taken command e₁ e₂ n
-
+  module _ (place : ℕ) (n : width_of (get_or f place 0) ≡ 0 → ⊥) (r : Reached f event at place) where
     -- an absent field, or a TEST that is false: no walk passes, so the step does not fire
-    pub silent-here : fails_at f command place event ≡ true → (fresh : List Bool) (c : Configuration) → (fired f at c fresh event).fires ≡ false
+    pub silent-here : fails_at f (get_or f place 0) place event ≡ true → (fresh : List Bool) (c : Configuration) → (fired f at c fresh event).fires ≡ false
     silent-here k fresh c =
         let s = r c (replicate 8 false) in
-        let a : fails_at f (get_or f s.w.at 0) s.w.at event ≡ true = rw (s.stands, ← e₁) k in
-        silenced place wide c s (fails-here f c.values (replicate 8 false) event s.w a) fresh
+        let a : fails_at f (get_or f s.w.at 0) s.w.at event ≡ true = rw s.stands k in
+        silenced place n c s (fails-here f c.values (replicate 8 false) event s.w a) fresh
 
     -- a TESTV that is false, or a BIND of a held variable to another value: no walk of a configuration that holds it passes
-    pub denied-here : (held : List Bool) (prior : List ℕ) → denies_at f command place held prior event ≡ true → (fresh : List Bool) (c : Configuration)
+    pub denied-here : (held : List Bool) (prior : List ℕ) → denies_at f (get_or f place 0) place held prior event ≡ true → (fresh : List Bool) (c : Configuration)
         → c.held ≡ held → c.values ≡ prior → (fired f at c fresh event).fires ≡ false
     denied-here held prior k fresh c e₃ e₄ =
         let s = r c (replicate 8 false) in
-        let a : denies_at f (get_or f s.w.at 0) s.w.at c.held c.values event ≡ true = rw (s.stands, ← e₁, e₃, e₄) k in
-        silenced place wide c s (denies-here c f (replicate 8 false) event s.w s.so a) fresh
+        let a : denies_at f (get_or f s.w.at 0) s.w.at c.held c.values event ≡ true = rw (s.stands, e₃, e₄) k in
+        silenced place n c s (denies-here c f (replicate 8 false) event s.w s.so a) fresh
 
     -- a TEST past due: whatever is held, the step is expired
-    pub late-here : (rises : List Bool) → misses_at f command place rises event ≡ true → (fresh : List Bool) (c : Configuration)
+    pub late-here : (rises : List Bool) → misses_at f (get_or f place 0) place rises event ≡ true → (fresh : List Bool) (c : Configuration)
         → lapsed f at c fresh rises event ≡ true
     unfolding lapsed walked
     late-here rises k fresh c =
         let s = r c rises in
-        let a : misses_at f (get_or f s.w.at 0) s.w.at rises event ≡ true = rw (s.stands, ← e₁) k in
-        let q = over (Keeps c) f event at c rises place wide s in
+        let a : misses_at f (get_or f s.w.at 0) s.w.at rises event ≡ true = rw s.stands k in
+        let q = over (Keeps c) f event at c rises place n s in
         let d : (walk_from (suc (length f)) f c.values rises event (begun at c)).due ≡ true
         = ap (λ (v : Walked). v.due) q.ahead
         ∙ walk-due f c.values rises event q.left _ (misses-here f c.values rises event s.w a) in
@@ -336,40 +341,3 @@ module _ (f : List ℕ) (event : Values) (at : ℕ) where
         go : (t : Bool) (u v : Bool) → u ≡ true → cond t true (u || v) ≡ true
         go true u v h = refl
         go false u v h = rw h
-
--- one clause more, as the code reads it
-pub reaches-on : (f : List ℕ) (at place taken command : ℕ) → command ≡ get_or f place 0 → taken ≡ width_of command → (taken ≡ 0 → ⊥)
-    → Reaches f at place → Reaches f at (place + taken)
-reaches-on f at place taken command e₁ e₂ n r =
-    let e : taken ≡ width_of (get_or f place 0) = e₂ ∙ ap width_of e₁ in
-    subst (λ t. Reaches f at (place + t)) (sym e) (onward place r (wide-there f place taken command e₁ e₂ n))
-
--- the clause as the code reads it
-module _ (f : List ℕ) (there : List Bool) (values : List ℕ) (c p k : ℕ) (e : k ≡ get_or f (p + 1) 0) where
-  abbrev event : Values
-  event = together there values
-
-  pub fails-absent : get_or there k false ≡ false → true ≡ fails_at f c p event
-  unfolding fails_at
-  fails-absent h = rw (← e, present-together there values k, h)
-
-  pub fails-other : get_or there k false ≡ true → (c ≡ 0x12 → ⊥) → false ≡ fails_at f c p event
-  unfolding fails_at
-  fails-other h n = rw (← e, present-together there values k, h, ne_eqb c 0x12 n)
-
-  pub misses-other : (rises : List Bool) → (c ≡ 0x12 → ⊥) → false ≡ misses_at f c p rises event
-  unfolding misses_at
-  misses-other rises n = rw (ne_eqb c 0x12 n)
-
-  pub misses-plain : (rises : List Bool) → c ≡ 0x12 → (get_or rises k false && get_or there k false) ≡ false → false ≡ misses_at f c p rises event
-  unfolding misses_at
-  misses-plain rises h n = rw (h, ← e, present-together there values k, n)
-
-  module _ (x o y : ℕ) (e₂ : x ≡ field event k) (e₃ : o ≡ get_or f (p + 2) 0) (e₄ : y ≡ value_at f (p + 3)) (test : c ≡ 0x12) where
-    pub fails-read : (h : Bool) → get_or there k false ≡ true → h ≡ holds_by o x y → not h ≡ fails_at f c p event
-    unfolding fails_at
-    fails-read h t q = rw (test, ← e, present-together there values k, t, ← e₂, ← e₃, ← e₄, ← q)
-
-    pub misses-read : (rises : List Bool) (r : Bool) → (get_or rises k false && get_or there k false) ≡ true → r ≡ missed_by o x y → r ≡ misses_at f c p rises event
-    unfolding misses_at
-    misses-read rises r t q = rw (test, ← e, present-together there values k, t, ← e₂, ← e₃, ← e₄) q

@@ -37,13 +37,12 @@ unfolding lapsed
 lapsed-out f at c fresh rising event h = rw (le-leb (length f) at h)
 
 -- the ways out behind the walk
-module _ (f : List ℕ) (at : ℕ) (c : Configuration) (fresh rising : List Bool) (event : Values) (w : Walked) (in-file : at < length f)
-    (e : w ≡ walked f at c rising event) where
-  pub lapsed-due : w.due ≡ true → true ≡ lapsed f at c fresh rising event
+module _ (f : List ℕ) (at : ℕ) (c : Configuration) (fresh rising : List Bool) (event : Values) (in-file : at < length f) where
+  pub lapsed-due : (walked f at c rising event).due ≡ true → true ≡ lapsed f at c fresh rising event
   unfolding lapsed
-  lapsed-due d = rw (lt-leb (length f) at in-file, ← e, d)
+  lapsed-due d = rw (lt-leb (length f) at in-file, d)
 
-  module _ (g : Gained) (k : g ≡ cond w.gathers (gained f at c.tallies fresh rising event) (kept c.tallies)) where
+  module _ (w : Walked) (e : w ≡ walked f at c rising event) (g : Gained) (k : g ≡ cond w.gathers (gained f at c.tallies fresh rising event) (kept c.tallies)) where
     -- the guard's value decides where it is not 0, and where it is 0 its trend does
     module _ (counters : List ℕ) (v : Bool) (d : w.due ≡ false) (n : counters ≡ raised c.counters c.state)
         (r : v ≡ guard_behind f w counters g.tallies) where

@@ -1,8 +1,8 @@
 -- Laws of the code over bytes: on the encoding of a step it gives what the machine gives.
 pub mod ClausesOnBytes
 pub mod EventAlone
-pub mod HeldAlone
 pub mod BytesAlone
+pub mod FirstClause
 pub mod FiringOnBytes
 pub mod WalkOnBytes
 pub mod GainingOnBytes

@@ -15,7 +15,8 @@ use Rattle.machine_code.specs.declared.Gained.{Gained}
 use Rattle.machine_code.specs.declared.Walked.{Walked}
 use Rattle.machine_code.specs.inner.Bytes.{is_clause, walk_from, begun, walked, kept, gained, raised, guard_behind, fired, lapsed, offset_of, is_step, fires_at, expires_at}
 use Rattle.machine_code.specs.inner.Bytes.{lowest_from, lowest_of, alive_below}
-use Rattle.machine_code.proofs.ClausesOnBytes.{Walking, walking-done}
+use Rattle.machine_code.specs.inner.Walking.{Walking}
+use Rattle.machine_code.proofs.ClausesOnBytes.{walking-done}
 use Rattle.machine_code.proofs.EventAlone.{walk-fails}
 use Rattle.machine_code.proofs.GainingOnBytes.{gains-by}
 

@@ -1,21 +1,15 @@
 // A step's clauses, walked front to back.
-ghost use Rattle.std.specs.Prelude.{◌≡◌, ◌||◌, ◌<◌, ◌+◌, ◌^◌, get_or, length};
-ghost use Rattle.event_log.specs.Event.{together};
-ghost use Rattle.machine_code.specs.inner.Bytes.{holds_by, missed_by, is_clause, tested, holding, bound, noted, met, clause_on, clause_at, begun, walked};
+ghost use Rattle.std.specs.Prelude.{◌≡◌, true, false, ◌&&◌, ◌<◌, ◌+◌, ◌^◌, get_or, length, MatchOption};
+ghost use Rattle.std.specs.Fn.{FnReturnsAt};
+ghost use Rattle.event_log.specs.Log.{present};
+ghost use Rattle.machine_code.specs.declared.Walked.{Walked};
+ghost use Rattle.machine_code.specs.inner.Bytes.{holds_by, missed_by, is_clause, tested, holding, bound, clause_on, clause_at, begun, walked};
+ghost use Rattle.machine_code.specs.inner.Walking.{Walking};
 
-use crate::readings::reading;
-use crate::{Configuration, Walked};
-use guard_code::guard::value_of;
-use guard_code::trends::mark_of;
-
-// Either of two tests.
-pub fn either(a: bool, b: bool) -> bool
-    ensures { result ≡ (a || b) }
-{
-    if a { true } else { b }
-}
+use crate::{Configuration, Scene, Walked};
 
 // "Operators: 0 equal, 1 unequal, 2 less, 3 greater, 4 at most, 5 at least; the field is on the left".
+#[tactic(auto, unfolding(crate::specs::inner::Bytes::holds_by))]
 pub fn holds(operator: u32, x: u32, y: u32) -> bool
     ensures { result ≡ holds_by operator x y }
 {
@@ -23,170 +17,145 @@ pub fn holds(operator: u32, x: u32, y: u32) -> bool
         0 => x == y,
         1 => x != y,
         2 => x < y,
-        3 => y < x,
+        3 => x > y,
         4 => x <= y,
-        _ => y <= x,
+        _ => x >= y,
     }
 }
 
 // A test with less or at most that is false.
+#[tactic(auto, unfolding(crate::specs::inner::Bytes::missed_by))]
 pub fn missed(operator: u32, x: u32, y: u32) -> bool
     ensures { result ≡ missed_by operator x y }
 {
     match operator {
-        2 => !(x < y),
-        4 => !(x <= y),
+        2 => x >= y,
+        4 => x > y,
         _ => false,
     }
-}
-
-// A TEST or TESTV: a field's value against another; `rises` says whether the field does.
-fn test(w: Walked, next: usize, operator: u32, x: u32, y: u32, rises: bool) -> Walked
-    ensures { result ≡ tested w next operator x y rises }
-{
-    let mut then = w;
-    then.at = next;
-    then.passes = base::both(w.passes, holds(operator, x, y));
-    then.due = either(w.due, base::both(rises, missed(operator, x, y)));
-    then
-}
-
-// Variable v holds x, unless it is held already.
-fn hold(w: Walked, v: u32, x: u32, rises: bool) -> Walked
-    ensures { result ≡ holding w v x rises }
-{
-    let i = v as usize;
-    if 8 <= i {
-        return w;
-    }
-    if w.held[i] {
-        return w;
-    }
-    let mut then = w;
-    then.held[i] = true;
-    then.values[i] = x;
-    then.grows[i] = rises;
-    then
-}
-
-// A BIND: its variable holds the field's value, which agrees with the value that it holds.
-fn bind(w: Walked, next: usize, v: u32, x: u32, rises: bool) -> Walked
-    ensures { result ≡ bound w next v x rises }
-{
-    let mut then = hold(w, v, x, rises);
-    let values = then.values;
-    then.at = next;
-    then.passes = base::both(w.passes, x == value_of(&values, v));
-    then
-}
-
-// A GATHER: what it adds to its list is not the walk's to know.
-fn note(w: Walked, next: usize) -> Walked
-    ensures { result ≡ noted w next }
-{
-    let mut then = w;
-    then.at = next;
-    then.gathers = true;
-    then
-}
-
-// A walk at a clause whose field is present or absent: an absent one keeps the step from firing.
-fn meet(w: Walked, there: bool) -> Walked
-    ensures { result ≡ met w there }
-{
-    let mut then = w;
-    then.passes = base::both(w.passes, there);
-    then
-}
-
-// The clause where the walk stands, of a field with value x, which is there and rises or not.
-fn clause_on(f: &[u8], w: Walked, prior: [u32; 8], x: u32, rising: bool) -> Walked
-    requires { w.at < length f.now }
-    ensures { result ≡ clause_on f.now prior w x rising }
-{
-    let at = w.at;
-    let operand = base::byte_at(f, at + 2);
-    let command = base::byte_at(f, at);
-    match command {
-        0x12 => test(w, at + 7, operand, x, base::value_at(f, at + 3), rising),
-        0x13 => test(
-            w,
-            at + 4,
-            operand,
-            x,
-            value_of(&prior, base::byte_at(f, at + 3)),
-            rising,
-        ),
-        0x17 => note(w, at + 3),
-        _ => bind(w, at + 3, operand, x, rising),
-    }
-}
-
-// The clause where the walk stands; a field that never arrived does not rise.
-pub fn clause(
-    f: &[u8],
-    w: Walked,
-    prior: [u32; 8],
-    rises: [bool; 8],
-    event: [u32; 8],
-    there: [bool; 8],
-) -> Walked
-    requires { w.at < length f.now }
-    ensures { result ≡ clause_at f.now prior rises (together there event) w }
-{
-    let field = base::byte_at(f, w.at + 1);
-    let present = mark_of(&there, field);
-    let x = reading(&event, &there, field);
-    let rising = base::both(mark_of(&rises, field), present);
-    clause_on(f, meet(w, present), prior, x, rising)
 }
 
 // Whether a TEST, TESTV, BIND or GATHER stands there.
+#[tactic(auto, unfolding(crate::specs::inner::Bytes::is_clause))]
 pub fn is_clause(f: &[u8], at: usize) -> bool
     ensures { result ≡ is_clause (get_or f.now at 0) }
 {
-    let command = base::byte_at(f, at);
-    match command {
-        0x17 => true,
-        0x12..=0x14 => true,
-        _ => false,
+    matches!(base::byte_at(f, at), 0x12..=0x14 | 0x17)
+}
+
+impl Walked {
+    // A walk begins behind the STEP and its target, with what the configuration holds.
+    #[tactic(auto, unfolding(crate::specs::inner::Bytes::begun))]
+    fn begin(at: usize, c: &Configuration) -> Walked
+        requires { at + 2 < 2 ^ 64 }
+        ensures { result ≡ begun at c.now }
+    {
+        Walked {
+            at: at + 2,
+            passes: true,
+            due: false,
+            gathers: false,
+            held: c.held,
+            values: c.values,
+            grows: c.held,
+        }
+    }
+
+    // A TEST or TESTV: a field's value against another; `rises` says whether the field does.
+    #[tactic(auto, unfolding(crate::specs::inner::Bytes::tested))]
+    fn test(&mut self, next: usize, operator: u32, x: u32, y: u32, rises: bool)
+        ensures { self.new ≡ tested self.old next operator x y rises }
+    {
+        self.at = next;
+        self.passes = self.passes && holds(operator, x, y);
+        self.due = self.due || rises && missed(operator, x, y);
+    }
+
+    // Variable v holds x, unless it is held already.
+    #[tactic(auto, unfolding(crate::specs::inner::Bytes::holding))]
+    fn hold(&mut self, v: u32, x: u32, rises: bool)
+        ensures { self.new ≡ holding self.old v x rises }
+    {
+        let i = v as usize;
+        if i < 8 && !self.held[i] {
+            self.held[i] = true;
+            self.values[i] = x;
+            self.grows[i] = rises;
+        }
+    }
+
+    // A BIND: its variable holds the field's value, which agrees with the value that it holds.
+    #[tactic(auto, unfolding(crate::specs::inner::Bytes::bound, crate::specs::inner::Bytes::holding))]
+    fn bind(&mut self, next: usize, v: u32, x: u32, rises: bool)
+        ensures { self.new ≡ bound self.old next v x rises }
+    {
+        self.hold(v, x, rises);
+        self.at = next;
+        self.passes = self.passes && x == base::get_or(&self.values, v as usize, 0);
     }
 }
 
-// A walk begins behind the STEP and its target, with what the configuration holds.
-pub fn begin(at: usize, c: Configuration) -> Walked
-    requires { at + 2 < 2 ^ 64 }
-    ensures { result ≡ begun at c }
-{
-    let held = c.held;
-    let values = c.values;
-    Walked {
-        at: at + 2,
-        passes: true,
-        due: false,
-        gathers: false,
-        held,
-        values,
-        grows: held,
+impl Scene<'_> {
+    // Whether a field rises; one that is absent does not.
+    pub fn rises(&self, n: u32) -> bool
+        ensures { result ≡ (get_or self.now.rises.now n false && present self.now.fields n) }
+    {
+        base::get_or(self.rises, n as usize, false) && self.fields.has(n)
     }
-}
 
-// The clauses of the STEP at an offset.
-pub fn walk(
-    f: &[u8],
-    at: usize,
-    c: Configuration,
-    rises: [bool; 8],
-    event: [u32; 8],
-    there: [bool; 8],
-) -> Walked
-    requires { at < length f.now }
-    ensures { result ≡ walked f.now at c rises (together there event) }
-{
-    let prior = c.values;
-    let mut w = begin(at, c);
-    while is_clause(f, w.at) {
-        w = clause(f, w, prior, rises, event, there);
+    // The clause where the walk stands, of a field with value x, which is there and rises or not.
+    #[tactic(auto, unfolding(crate::specs::inner::Bytes::clause_on, crate::specs::inner::Bytes::noted))]
+    fn clause_on(&self, w: &mut Walked, x: u32, rising: bool)
+        requires { w.old.at < length self.now.f.now }
+        ensures { w.new ≡ clause_on self.now.f.now self.now.c.now.values w.old x rising }
+    {
+        let f = self.f;
+        let at = w.at;
+        let operand = base::byte_at(f, at + 2);
+        match base::byte_at(f, at) {
+            0x12 => w.test(at + 7, operand, x, base::value_at(f, at + 3), rising),
+            0x13 => {
+                let v = base::byte_at(f, at + 3) as usize;
+                w.test(at + 4, operand, x, base::get_or(&self.c.values, v, 0), rising)
+            }
+            0x17 => {
+                w.at = at + 3;
+                w.gathers = true;
+            }
+            _ => w.bind(at + 3, operand, x, rising),
+        }
     }
-    w
+
+    // The clause where the walk stands; one of an absent field keeps the step from firing.
+    #[tactic(auto, unfolding(crate::specs::inner::Bytes::clause_at, crate::specs::inner::Bytes::met))]
+    fn clause(&self, w: &mut Walked)
+        requires { w.old.at < length self.now.f.now }
+        ensures { w.new ≡ clause_at self.now.f.now self.now.c.now.values self.now.rises.now self.now.fields w.old }
+    {
+        let field = base::byte_at(self.f, w.at + 1);
+        let present = self.fields.has(field);
+        let rising = self.rises(field);
+        w.passes = w.passes && present;
+        self.clause_on(w, self.fields.reading(field), rising);
+    }
+
+    // The clauses of the STEP at an offset; none where a test stops the walk.
+    pub fn walk<F: Fn(&Walked) -> bool>(&self, at: usize, stop: F) -> Option<Walked>
+        requires inside { at < length self.now.f.now }
+        requires callable { F.IsAlwaysCallable stop }
+        ensures { MatchOption result
+            ((w : Walked)
+                × Walking self.now.f.now self.now.c.now.values self.now.rises.now self.now.fields (begun at self.now.c.now) w
+                × FnReturnsAt F.Fn stop w true)
+            (λ w. (w ≡ walked self.now.f.now at self.now.c.now self.now.rises.now self.now.fields) × FnReturnsAt F.Fn stop w false) }
+    {
+        let mut w = Walked::begin(at, self.c);
+        while !stop(&w) {
+            if !is_clause(self.f, w.at) {
+                return Some(w);
+            }
+            self.clause(&mut w);
+        }
+        None
+    }
 }

@@ -3,32 +3,47 @@ ghost use Rattle.std.specs.Prelude.{◌≡◌};
 ghost use Rattle.event_log.specs.Arrays.{in_latest};
 ghost use Rattle.machine_code.specs.inner.Bytes.{falls_behind, lapsed};
 
-use crate::clauses::walk;
 use crate::firing::raise;
-use crate::gaining::gains;
-use crate::{Configuration, Gained};
+use crate::readings::Fields;
+use crate::{Configuration, Gained, Scene, Walked};
 use event_log::Latest;
 use guard_code::Marks;
 use guard_code::guard::guard_holds;
 use guard_code::trends::guard_falls;
 
-// Whether the guard at a place is falling, given the variables held before the step, those that grow, and what it gathers.
-fn falls_behind(f: &[u8], at: usize, held: [bool; 8], grows: [bool; 8], g: Gained) -> bool
-    ensures { result ≡ falls_behind f.now at held grows g }
-{
-    let rising = g.rising;
-    let unchanged = g.unchanged;
-    let falling = Marks {
-        variables: held,
-        sums: unchanged,
-        differents: unchanged,
-    };
-    let growing = Marks {
-        variables: grows,
-        sums: rising,
-        differents: unchanged,
-    };
-    guard_falls(f, at, falling, growing)
+impl Scene<'_> {
+    // Whether the guard behind a walk is falling, given what the step gathers.
+    fn falls_behind(&self, w: &Walked, g: &Gained) -> bool
+        ensures { result ≡ falls_behind self.now.f.now w.now.at self.now.c.now.held w.now.grows g.now }
+    {
+        let falling = Marks {
+            variables: self.c.held,
+            sums: g.unchanged,
+            differents: g.unchanged,
+        };
+        let growing = Marks {
+            variables: w.grows,
+            sums: g.rising,
+            differents: g.unchanged,
+        };
+        guard_falls(self.f, w.at, falling, growing)
+    }
+
+    // Whether the STEP at an offset is expired.
+    pub fn lapses(&self, at: usize) -> bool
+        ensures { result ≡ lapsed self.now.f.now at self.now.c.now self.now.fresh.now self.now.rises.now self.now.fields }
+    {
+        if self.f.len() <= at {
+            return true;
+        }
+        let Some(w) = self.walk(at, |w| w.due) else {
+            return true;
+        };
+        let gained = self.gains(at, &w);
+        let counters = raise(self.c.counters, self.c.state);
+        !guard_holds(self.f, w.at, w.values, counters, gained.tallies)
+            && self.falls_behind(&w, &gained)
+    }
 }
 
 // Whether the STEP at an offset is expired by these values; `rises` marks the rising fields.
@@ -42,25 +57,13 @@ pub fn expired(
 ) -> bool
     ensures { result ≡ lapsed f.now at c fresh rises (in_latest latest) }
 {
-    if f.len() <= at {
-        return true;
-    }
-    let fields = latest.values;
-    let there = latest.present;
-    let w = walk(f, at, c, rises, fields, there);
-    if w.due {
-        return true;
-    }
-    let before = c.tallies;
-    let g = gains(f, at, w.gathers, before, fresh, rises, fields, there);
-    let values = w.values;
-    let tallies = g.tallies;
-    let old = c.counters;
-    let counters = raise(old, c.state);
-    if guard_holds(f, w.at, values, counters, tallies) {
-        return false;
-    }
-    let held = c.held;
-    let grows = w.grows;
-    falls_behind(f, w.at, held, grows, g)
+    let fields = Fields::from(&latest);
+    let scene = Scene {
+        f,
+        c: &c,
+        fields,
+        rises: &rises,
+        fresh: &fresh,
+    };
+    scene.lapses(at)
 }

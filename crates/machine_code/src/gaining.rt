@@ -1,119 +1,92 @@
 // What a step's GATHERs add to the lists, of which a configuration holds the tallies.
 ghost use Rattle.std.specs.Prelude.{◌≡◌, cond, ◌<◌, length};
-ghost use Rattle.event_log.specs.Event.{together};
 ghost use Rattle.machine.specs.inner.Along.{tally_add};
 ghost use Rattle.machine_code.specs.inner.Bytes.{kept, gathered, gain_at, gained};
 
-use crate::Gained;
 use crate::clauses::is_clause;
 use crate::marks::width;
-use crate::readings::reading;
-use guard_code::guard::{difference, sum};
-use guard_code::trends::mark_of;
-
-// Nothing gathered.
-fn keep(tallies: [u32; 12]) -> Gained
-    ensures { result ≡ kept tallies }
-{
-    Gained {
-        tallies,
-        rising: [true; 4],
-        unchanged: [true; 4],
-    }
-}
+use crate::{Gained, Scene, Walked};
 
 // The tallies with x added to list i; `new` says that no value of the list equals x.
-fn tally_add(tallies: [u32; 12], i: usize, x: u32, new: bool) -> [u32; 12]
+#[tactic(auto, unfolding(machine::specs::inner::Along::tally_add))]
+fn tally_add(tallies: &mut [u32; 12], i: usize, x: u32, new: bool)
     requires { i < 4 }
-    ensures { result ≡ tally_add tallies i x new }
+    ensures { tallies.new ≡ tally_add tallies.old i x new }
 {
-    let mut then = tallies;
-    then[i] = sum(tallies[i], x);
-    then[4 + i] = sum(tallies[4 + i], 1);
-    then[8 + i] = sum(tallies[8 + i], base::bit_of(new));
-    then
+    tallies[i] = tallies[i].saturating_add(x);
+    tallies[4 + i] = tallies[4 + i].saturating_add(1);
+    tallies[8 + i] = tallies[8 + i].saturating_add(u32::from(new));
 }
 
-// A GATHER of a field: its list, written 8 + i, gains the field's value. `fresh` says at i * 8 + field that no value of list i equals it.
-fn gather(g: Gained, field: u32, operand: u32, x: u32, rises: bool, fresh: [bool; 32]) -> Gained
-    requires { field < 256 }
-    ensures { result ≡ gathered g field operand x rises fresh }
-{
-    let list = difference(operand, 8);
-    if 4 <= list {
-        return g;
+impl Gained {
+    // Nothing gathered.
+    #[tactic(auto, unfolding(crate::specs::inner::Bytes::kept))]
+    fn nothing(tallies: [u32; 12]) -> Gained
+        ensures { result ≡ kept tallies }
+    {
+        Gained {
+            tallies,
+            rising: [true; 4],
+            unchanged: [true; 4],
+        }
     }
-    let i = list as usize;
-    let tallies = g.tallies;
-    let mut then = g;
-    then.tallies = tally_add(tallies, i, x, mark_of(&fresh, list * 8 + field));
-    then.rising[i] = base::both(g.rising[i], rises);
-    then.unchanged[i] = false;
-    then
+
+    // A GATHER of a field: its list, written 8 + i, gains the field's value. `fresh` says at i * 8 + field that no value of list i equals it.
+    #[tactic(auto, unfolding(crate::specs::inner::Bytes::gathered, crate::specs::inner::Bytes::gaining))]
+    fn gather(&mut self, field: u32, operand: u32, x: u32, rises: bool, fresh: &[bool; 32])
+        requires { field < 256 }
+        ensures { self.new ≡ gathered self.old field operand x rises fresh.now }
+    {
+        let i = operand.saturating_sub(8) as usize;
+        if 4 <= i {
+            return;
+        }
+        let new = base::get_or(fresh, i * 8 + field as usize, false);
+        tally_add(&mut self.tallies, i, x, new);
+        self.rising[i] = self.rising[i] && rises;
+        self.unchanged[i] = false;
+    }
 }
 
-// What the clause at a place adds.
-fn gain(
-    f: &[u8],
-    place: usize,
-    g: Gained,
-    fresh: [bool; 32],
-    rises: [bool; 8],
-    event: [u32; 8],
-    there: [bool; 8],
-) -> Gained
-    requires { place < length f.now }
-    ensures { result ≡ gain_at f.now fresh rises (together there event) place g }
-{
-    if base::byte_at(f, place) != 0x17 {
-        return g;
+impl Scene<'_> {
+    // What the clause at a place adds.
+    #[tactic(auto, unfolding(crate::specs::inner::Bytes::gain_at))]
+    fn gain(&self, place: usize, g: &mut Gained)
+        requires { place < length self.now.f.now }
+        ensures { g.new ≡ gain_at self.now.f.now self.now.fresh.now self.now.rises.now self.now.fields place g.old }
+    {
+        if base::byte_at(self.f, place) != 0x17 {
+            return;
+        }
+        let field = base::byte_at(self.f, place + 1);
+        let operand = base::byte_at(self.f, place + 2);
+        let rising = self.rises(field);
+        g.gather(field, operand, self.fields.reading(field), rising, self.fresh);
     }
-    let field = base::byte_at(f, place + 1);
-    let operand = base::byte_at(f, place + 2);
-    let x = reading(&event, &there, field);
-    let rising = base::both(mark_of(&rises, field), mark_of(&there, field));
-    gather(g, field, operand, x, rising, fresh)
-}
 
-// What the clauses of the STEP at an offset add.
-fn gain_all(
-    f: &[u8],
-    at: usize,
-    tallies: [u32; 12],
-    fresh: [bool; 32],
-    rises: [bool; 8],
-    event: [u32; 8],
-    there: [bool; 8],
-) -> Gained
-    requires { at < length f.now }
-    ensures { result ≡ gained f.now at tallies fresh rises (together there event) }
-{
-    let mut g = keep(tallies);
-    let mut place = at + 2;
-    while is_clause(f, place) {
-        let taken = width(base::byte_at(f, place));
-        g = gain(f, place, g, fresh, rises, event, there);
-        place = place + taken;
+    // What the clauses of the STEP at an offset add.
+    fn gain_all(&self, at: usize) -> Gained
+        requires { at < length self.now.f.now }
+        ensures { result ≡ gained self.now.f.now at self.now.c.now.tallies self.now.fresh.now self.now.rises.now self.now.fields }
+    {
+        let mut g = Gained::nothing(self.c.tallies);
+        let mut place = at + 2;
+        while is_clause(self.f, place) {
+            self.gain(place, &mut g);
+            place += width(base::byte_at(self.f, place));
+        }
+        g
     }
-    g
-}
 
-// The same, where it is known whether one of them is a GATHER: where none is, nothing is gathered.
-pub fn gains(
-    f: &[u8],
-    at: usize,
-    gathers: bool,
-    tallies: [u32; 12],
-    fresh: [bool; 32],
-    rises: [bool; 8],
-    event: [u32; 8],
-    there: [bool; 8],
-) -> Gained
-    requires { at < length f.now }
-    ensures { result ≡ cond gathers (gained f.now at tallies fresh rises (together there event)) (kept tallies) }
-{
-    if gathers {
-        return gain_all(f, at, tallies, fresh, rises, event, there);
+    // The same of a step that is walked: where the walk met no GATHER, nothing is gathered.
+    pub fn gains(&self, at: usize, w: &Walked) -> Gained
+        requires { at < length self.now.f.now }
+        ensures { result ≡ cond w.now.gathers (gained self.now.f.now at self.now.c.now.tallies self.now.fresh.now self.now.rises.now self.now.fields) (kept self.now.c.now.tallies) }
+    {
+        if w.gathers {
+            self.gain_all(at)
+        } else {
+            Gained::nothing(self.c.tallies)
+        }
     }
-    keep(tallies)
 }

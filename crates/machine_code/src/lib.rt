@@ -9,6 +9,8 @@ pub mod marks;
 mod readings;
 pub mod steps;
 
+use crate::readings::Fields;
+
 // "A configuration is a state, the held variables with values, and a counter per state"; a value is 0 where its variable is not held.
 // Of the 4 lists it holds only what guards read: their sums, their lengths, their numbers of different values.
 #[derive(Clone, Copy)]
@@ -18,6 +20,17 @@ pub struct Configuration {
     pub values: [u32; 8],
     pub counters: [u32; 16],
     pub tallies: [u32; 12],
+}
+
+// What a step is walked by: the formula's bytes, the configuration before it, the fields with which of them rise, and what is new to the
+// lists: at i * 8 + n, whether no value of list i equals that of field n.
+#[derive(Drop)]
+struct Scene<'a> {
+    f: &'a [u8],
+    c: &'a Configuration,
+    fields: Fields<'a>,
+    rises: &'a [bool],
+    fresh: &'a [bool; 32],
 }
 
 // A walk over a step's clauses: where it stands, whether every clause so far passes, whether one is past due, whether one is a
@@ -41,11 +54,4 @@ struct Gained {
     tallies: [u32; 12],
     rising: [bool; 4],
     unchanged: [bool; 4],
-}
-
-// Whether a step fires, and the configuration that it leaves.
-#[derive(Clone, Copy)]
-pub struct Fired {
-    pub fires: bool,
-    pub config: Configuration,
 }

@@ -3,7 +3,6 @@ use Rattle.std.specs.Prelude.{ℕ, zero, suc, ◌+◌, ◌-◌, ◌*◌, min, Bo
 use Rattle.base.specs.Value.{value_at}
 use Rattle.event_log.specs.Log.{Values, present, field}
 use Rattle.machine_code.specs.declared.Configuration.{Configuration}
-use Rattle.machine_code.specs.declared.Fired.{Fired}
 use Rattle.machine_code.specs.declared.Gained.{Gained}
 use Rattle.machine_code.specs.declared.Walked.{Walked}
 use Rattle.machine.specs.Configuration.{Config}
@@ -177,15 +176,20 @@ leaving target w counters ts = record { state = target; held = w.held; values = 
 abbrev pub guard_behind : List ℕ → Walked → List ℕ → List ℕ → Bool
 guard_behind f w counters ts = guard_at (leaf_value w.values counters ts) f w.at
 
+-- whether a step fires, and the configuration that it leaves
+pub record Firing : Type 0 where
+  pub fires : Bool
+  pub config : Configuration
+
 -- a step that a clause keeps from firing leaves the configuration
-abbrev pub fired_by : List ℕ → ℕ → Configuration → Walked → List ℕ → List ℕ → Fired
+abbrev pub fired_by : List ℕ → ℕ → Configuration → Walked → List ℕ → List ℕ → Firing
 fired_by f at c w counters ts = record {
   fires = w.passes && guard_behind f w counters ts;
   config = cond w.passes (leaving (get_or f (at + 1) 0) w counters ts) c;
 }
 
 -- whether the STEP at an offset fires, and the configuration that it leaves; past the end there is no step
-unfoldable pub fired : List ℕ → ℕ → Configuration → List Bool → Values → Fired
+unfoldable pub fired : List ℕ → ℕ → Configuration → List Bool → Values → Firing
 fired f at c fresh event =
     cond (leb (length f) at) (record { fires = false; config = c })
     (fired_by f at c (walked f at c (replicate 8 false) event) (raised c.counters c.state)

@@ -1,5 +1,5 @@
 -- What an event alone says of a step, what it says with the values held before the step, and what the step's bytes alone say.
-use Rattle.std.specs.Prelude.{ℕ, ◌+◌, ◌≡◌, Bool, true, false, not, ◌&&◌, ◌||◌, cond, List, get_or, eqb}
+use Rattle.std.specs.Prelude.{ℕ, ◌+◌, ◌≤◌, ◌≡◌, Bool, true, false, not, ◌&&◌, ◌||◌, cond, List, length, get_or, eqb, Option, IfSome}
 use Rattle.base.specs.Value.{value_at}
 use Rattle.event_log.specs.Log.{Values, present, field}
 use Rattle.machine_code.specs.declared.Configuration.{Configuration}
@@ -34,9 +34,25 @@ pub data Reaches (f : List ℕ) (at : ℕ) : ℕ → Type 0 where
   begins : Reaches f at (at + 2)
   onward : (place : ℕ) → Reaches f at place → (width_of (get_or f place 0) ≡ 0 → ⊥) → Reaches f at (place + width_of (get_or f place 0))
 
--- a step said to be barred by the clause at a place, which is not 0, does not fire on the event, whatever the configuration and its lists
-abbrev pub BarredIs : List ℕ → ℕ → Values → ℕ → Type 0
-BarredIs f at event r = (r ≡ 0 → ⊥) → ((fresh : List Bool) (c : Configuration) → (fired f at c fresh event).fires ≡ false) × Reaches f at r
+-- the clauses from a place on that a test lets pass, up to a place
+pub data Passed (test : ℕ → ℕ → Bool → Type 0) (f : List ℕ) (from : ℕ) : ℕ → Type 0 where
+  start : Passed test f from from
+  over : (place : ℕ) → Passed test f from place → (width_of (get_or f place 0) ≡ 0 → ⊥) → test (get_or f place 0) place false
+      → Passed test f from (place + width_of (get_or f place 0))
+
+-- the first clause from a place on that a test picks
+abbrev pub PickedIs : (ℕ → ℕ → Bool → Type 0) → List ℕ → ℕ → ℕ → Type 0
+PickedIs test f from place =
+    Passed test f from place × (width_of (get_or f place 0) ≡ 0 → ⊥) × test (get_or f place 0) place true
+
+-- where the clauses from a place on end, none of which it picks: no clause stands there, or it has not so many bytes as asked for
+abbrev pub EndedIs : (ℕ → ℕ → Bool → Type 0) → List ℕ → ℕ → ℕ → ℕ → Type 0
+EndedIs test f from room place = Passed test f from place × (place + room ≤ length f → width_of (get_or f place 0) ≡ 0)
+
+-- a step said to be barred by the clause at a place does not fire on the event, whatever the configuration and its lists
+abbrev pub BarredIs : List ℕ → ℕ → Values → Option ℕ → Type 0
+BarredIs f at event r =
+    IfSome r (λ place. ((fresh : List Bool) (c : Configuration) → (fired f at c fresh event).fires ≡ false) × Reaches f at place)
 
 -- a step said to be due by its clauses from a place on is expired by these values, whatever the configuration and its lists
 abbrev pub DueIs : List ℕ → ℕ → List Bool → Values → Bool → Type 0
