@@ -7,6 +7,10 @@ use native.Mathlib.Omega.{arith}
 use native.Mathlib.Decide.{dec_lt}
 use lib.ListN.{length, get_or, set, length-append, length-set}
 use lib.Seq.{set-get_or}
+use lib.Dec.{ltb}
+use borrow.Author.Tests.{lt-ltb, le-ltb, ltb-false}
+use Rattle.std.specs.Prelude.{Option, Some, None}
+use Rattle.base.specs.Lists.{some_if, some_below}
 use Rattle.runs.specs.inner.Order.{order}
 use Rattle.slots.specs.declared.Thread.{Thread}
 use Rattle.slots.specs.inner.Threads.{Sized, trail_of, comes_after, replaced, lesser_thread, placed, insert_thread, found_or, position}
@@ -98,6 +102,30 @@ module _ (p : Thread → Bool) where
           let e = ap length (insert-there h) ∙ length-append (list half count l) (b ∷ []) in
           omega arith
 
+  -- and so as an option: none where no thread passes
+  pub position-some : (half count : ℕ) (l : List ℕ) (r : ℕ) → r < count → ((i : ℕ) → 0 ≤ i → i < r → p (thread_at l (place half i)) ≡ false)
+      → p (thread_at l (place half r)) ≡ true → Some r ≡ some_below count (position p (list half count l))
+  position-some half count l r h before here = rw (← position-is half count l r (omega arith) before (λ k. here), lt-ltb r count h)
+
+  pub position-none : (half count : ℕ) (l : List ℕ) → ((i : ℕ) → 0 ≤ i → i < count → p (thread_at l (place half i)) ≡ false)
+      → None ≡ some_below count (position p (list half count l))
+  position-none half count l before = rw (← position-is half count l count (omega arith) before (λ k. absurd (omega arith)), le-ltb count count (omega arith))
+
+-- what a search found is the number, and where it is not below n nothing was found
+found-at : (k n q : ℕ) → Some k ≡ some_below n q → k ≡ q
+found-at k n q e = by (ltb q n) e
+  where
+    by : (b : Bool) → Some k ≡ some_if b q → k ≡ q
+    by true h = cc
+    by false h = cc
+
+none_below : (at : Option ℕ) (n q : ℕ) → at ≡ some_below n q → ((k : ℕ) → at ≡ Some k → n ≤ k) → n ≤ q
+none_below at n q e away = by (ltb q n) refl e
+  where
+    by : (b : Bool) → ltb q n ≡ b → at ≡ some_if b q → n ≤ q
+    by true t h = away q h
+    by false t h = ltb-false q n t
+
 -- the two halves of slots lie apart
 apart : (half half' i slot : ℕ) → half' + half ≡ 1 → place half' i ≡ place half slot → ⊥
 apart zero zero i slot h e = omega arith
@@ -121,61 +149,73 @@ module _ (half count slots : ℕ) (b : Thread) (s : Sized b) (l : List ℕ) (roo
   around-same : (r : ℕ) → count ≤ r → r ≤ count + 1 → Around half count l l r
   around-same r least most = record { least = least; most = most; other = λ half' k n e. refl; sized = refl }
 
-  module _ (at : ℕ) where
-    -- a thread stands at the place and its trail is later: b takes its place
-    pub inserted-lesser : at < count → comes_after (order (trail_of (thread_at l (place half at))) (trail_of b)) ≡ true
-        → InsertedAt half count slots at b l (put l (place half at) (words_of b)) count
-    inserted-lesser h e = (
-      around-stored at count (omega arith) (omega arith) (omega arith),
-      λ p found.
-          let i = insert-here p b half count l at found h true (sym e) in
-          let n = threads-length half 0 count l in
-          let m = ap length i ∙ length-set (list half count l) at b in
+  inside : (r : ℕ) → r ≤ slots → Some r ≡ some_below (slots + 1) r
+  inside r h = rw (lt-ltb r (slots + 1) (omega arith))
+
+  module _ (at : Option ℕ) (w : List ℕ) where
+    module _ (k : ℕ) (is : at ≡ Some k) (h : k < count) where
+      -- a thread stands at the place and its trail is later: b takes its place
+      pub inserted-lesser : comes_after (order (trail_of (thread_at l (place half k))) (trail_of b)) ≡ true → w ≡ put l (place half k) (words_of b)
+          → InsertedAt half count slots at b l w (Some count)
+      inserted-lesser e g =
+          rw g (record {
+            within = inside count within;
+            around = around-stored k count (omega arith) (omega arith) (omega arith);
+            inserted = λ p found.
+                let i = insert-here p b half count l k (found-at k count (position p (list half count l)) (sym is ∙ found)) h true (sym e) in
+                let n = threads-length half 0 count l in
+                let m = ap length i ∙ length-set (list half count l) k b in
+                record {
+                  counted = omega arith;
+                  listed = λ x. threads-stored l b s half k (omega arith) 0 count k (omega arith) h ∙ sym i;
+                  full = λ x. absurd (omega arith);
+                };
+          })
+
+      -- its trail is not later: it stays
+      pub inserted-kept : comes_after (order (trail_of (thread_at l (place half k))) (trail_of b)) ≡ false → InsertedAt half count slots at b l l (Some count)
+      inserted-kept e =
           record {
-            counted = omega arith;
-            listed = λ g. threads-stored l b s half at (omega arith) 0 count at (omega arith) h ∙ sym i;
-            full = λ g. absurd (omega arith);
-          },
-    )
+            within = inside count within;
+            around = around-same count (omega arith) (omega arith);
+            inserted = λ p found.
+                let i = insert-here p b half count l k (found-at k count (position p (list half count l)) (sym is ∙ found)) h false (sym e)
+                ∙ set-get_or (list half count l) k b in
+                let n = threads-length half 0 count l in
+                let m = ap length i in
+                record { counted = omega arith; listed = λ x. sym i; full = λ x. refl };
+          }
 
-    -- its trail is not later: it stays
-    pub inserted-kept : at < count → comes_after (order (trail_of (thread_at l (place half at))) (trail_of b)) ≡ false → InsertedAt half count slots at b l l count
-    inserted-kept h e = (
-      around-same count (omega arith) (omega arith),
-      λ p found.
-          let i = insert-here p b half count l at found h false (sym e) ∙ set-get_or (list half count l) at b in
-          let n = threads-length half 0 count l in
-          let m = ap length i in
-          record { counted = omega arith; listed = λ g. sym i; full = λ g. refl },
-    )
+    module _ (away : (k : ℕ) → at ≡ Some k → count ≤ k) where
+      -- no thread stands at the place, and there is room
+      pub inserted-more : count < slots → w ≡ put l (place half count) (words_of b) → InsertedAt half count slots at b l w (Some (count + 1))
+      inserted-more k g =
+          let front : list half count (put l (place half count) (words_of b)) ≡ list half count l =
+          threads-elsewhere l b s half count (omega arith) half 0 count (λ i p q z. omega arith) in
+          let back : thread_at (put l (place half count) (words_of b)) (place half count) ≡ b = stored_here l b s (place half count) (omega arith) in
+          rw g (record {
+            within = inside (count + 1) (omega arith);
+            around = around-stored count (count + 1) k (omega arith) (omega arith);
+            inserted = λ p found.
+                let h = none_below at count (position p (list half count l)) found away in
+                record {
+                  counted = sym (one_more p b half count l (position p (list half count l)) refl h);
+                  listed = λ x. list-more half count (put l (place half count) (words_of b))
+                      ∙ rw (front, back) (sym (insert-there p b half count l (position p (list half count l)) refl h));
+                  full = λ x. absurd (omega arith);
+                };
+          })
 
-    -- the place is past the list, and there is room
-    pub inserted-more : count ≤ at → count < slots → InsertedAt half count slots at b l (put l (place half count) (words_of b)) (count + 1)
-    inserted-more h k =
-        let front : list half count (put l (place half count) (words_of b)) ≡ list half count l =
-        threads-elsewhere l b s half count (omega arith) half 0 count (λ i p q z. omega arith) in
-        let back : thread_at (put l (place half count) (words_of b)) (place half count) ≡ b = stored_here l b s (place half count) (omega arith) in (
-          around-stored count (count + 1) k (omega arith) (omega arith),
-          λ p found. record {
-            counted = sym (one_more p b half count l at found h);
-            listed = λ g. list-more half count (put l (place half count) (words_of b)) ∙ rw (front, back) (sym (insert-there p b half count l at found h));
-            full = λ g. absurd (omega arith);
-          },
-        )
-
-    -- and there is no room
-    pub inserted-none : count ≤ at → slots ≤ count → InsertedAt half count slots at b l l (slots + 1)
-    inserted-none h k = (
-      around-same (slots + 1) (omega arith) (omega arith),
-      λ p found.
-          let n = one_more p b half count l at found h in
-          record { counted = omega arith; listed = λ g. absurd (omega arith); full = λ g. refl },
-    )
-
--- words that equal what an insertion leaves
-pub leaves : (half count slots at : ℕ) (b : Thread) (l : List ℕ) (r : ℕ) (w : List ℕ) {v : List ℕ} → w ≡ v → InsertedAt half count slots at b l v r
-    → InsertedAt half count slots at b l w r
-leaves half count slots at b l r w e i = rw e i
+      -- and there is no room
+      pub inserted-none : slots ≤ count → InsertedAt half count slots at b l l None
+      inserted-none k =
+          record {
+            within = rw (le-ltb (slots + 1) (slots + 1) (omega arith));
+            around = around-same (slots + 1) (omega arith) (omega arith);
+            inserted = λ p found.
+                let n = one_more p b half count l (position p (list half count l)) refl (none_below at count (position p (list half count l)) found away) in
+                record { counted = omega arith; listed = λ x. absurd (omega arith); full = λ x. refl };
+          }
 
 -- ---- a thread of the list that is kept
 

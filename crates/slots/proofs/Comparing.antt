@@ -1,132 +1,113 @@
--- Comparing words: a word with a flag, trails from the front (what is left from place i on), and configurations part by part.
+-- Comparing words: lists element by element, trails by a key of their words, and configurations part by part.
 use Prim.Native.Nat.compare
-use Prim.Native.Nat.{ℕ, zero, suc, ◌+◌, ◌<◌, ◌≤◌, ◌/◌, ◌%◌, compare, Ordering}
-use mathlib.Core.Path.{◌≡◌, refl, ◌∙◌}
-use mathlib.Core.Bool.{Bool, true, false, not, ◌&&◌, beq}
-use mathlib.Core.List.{List, map}
-use native.Mathlib.Numerals.{add-one}
+use Prim.Native.Nat.{ℕ, zero, suc, ◌+◌, ◌<◌, compare, Ordering}
+use mathlib.Core.Path.{◌≡◌, refl, ap, sym, ◌∙◌}
+use mathlib.Core.Bool.{Bool, true, false, ◌&&◌, cond, true≢false, false≢true}
+use mathlib.Core.List.{List, [], ◌∷◌, map}
+use mathlib.Core.Logic.{◌⊎◌, inl, inr}
 use native.Mathlib.Omega.{arith}
-use lib.ListN.{length, get_or, take, drop, drop_of_length-le, get_or-map}
-use lib.Dec.{eqb}
-use lib.Seq.{drop-cons}
+use lib.ListN.{length}
+use lib.Dec.{eqb, ltb}
+use lib.Pointwise.{pointwise}
+use Rattle.std.specs.Ordering.{nat_cmp, is_ne, is_gt}
+use Rattle.std.specs.declared.cmp.Ordering.{Ordering as Answer}
+use Rattle.std.specs.declared.cmp.Ordering.TheVariants.{Less, Equal, Greater}
 use Rattle.base.specs.Lists.{same_list}
 use Rattle.runs.specs.inner.Order.{then, lex}
 use Rattle.runs.proofs.Comparison.{compare_self, less-compare}
-use Rattle.machine_code.specs.declared.Configuration.{Configuration}
-use Rattle.slots.specs.inner.Threads.{key, same_words}
-use Rattle.slots.specs.inner.Words.{is_set, thread_of}
-use borrow.Author.Tests.{eq-eqb, ne_eqb}
+use Rattle.slots.specs.inner.Threads.{comes_after, side_of}
+use borrow.Author.Tests.{ltb-true, ltb-false, eqb-true, eqb-false}
 
--- a word against a flag, by the flag
-pub agrees-held : (w : ℕ) (h : Bool) → h ≡ true → not (eqb w 0) ≡ beq (is_set w) h
-agrees-held w h e = rw e (go (not (eqb w 0)))
-  where
-    go : (b : Bool) → b ≡ beq b true
-    go true = refl
-    go false = refl
+-- lists compared element by element, as `==` compares them
+same-pointwise : {A : Type 0} (test : A → A → Bool) (xs ys : List A) → pointwise test xs ys ≡ same_list test xs ys
+same-pointwise test [] [] = refl
+same-pointwise test [] (y ∷ ys) = refl
+same-pointwise test (x ∷ xs) [] = refl
+same-pointwise test (x ∷ xs) (y ∷ ys) = ap (λ b. test x y && b) (same-pointwise test xs ys)
 
-pub agrees-free : (w : ℕ) (h : Bool) → h ≡ false → eqb w 0 ≡ beq (is_set w) h
-agrees-free w h e = rw e (go (eqb w 0))
-  where
-    go : (b : Bool) → b ≡ beq (not b) false
-    go true = refl
-    go false = refl
+pub part-same : {A : Type 0} (test : A → A → Bool) (xs ys zs : List A) (r : Bool) → r ≡ pointwise test xs zs → xs ≡ ys → r ≡ same_list test ys zs
+part-same test xs ys zs r e h = e ∙ same-pointwise test xs zs ∙ ap (λ l. same_list test l zs) h
 
--- what a trail word is compared by
-pub key-number : (n : Bool) (w : ℕ) → n ≡ true → w % 8 ≡ key n w
-key-number n w e = rw e
-
-pub key-event : (n : Bool) (w : ℕ) → n ≡ false → w / 8 ≡ key n w
-key-event n w e = rw e
-
--- of the word at an index
-pub key-at : (n : Bool) (l : List ℕ) (i : ℕ) → get_or (map (key n) l) i 0 ≡ key n (get_or l i 0)
-key-at true l i = get_or-map (key true) l i 0
-key-at false l i = get_or-map (key false) l i 0
-
-pub compare-gt : (x y : ℕ) → y < x → compare x y ≡ Ordering.gt
+compare-gt : (x y : ℕ) → y < x → compare x y ≡ Ordering.gt
 compare-gt zero zero h = absurd (omega arith)
 compare-gt zero (suc y) h = absurd (omega arith)
 compare-gt (suc x) zero h = compare.suc-zero x
 compare-gt (suc x) (suc y) h = compare.suc-suc x y ∙ compare-gt x y (omega arith)
 
-pub compare-eq : (x y : ℕ) → x ≤ y → y ≤ x → compare x y ≡ Ordering.eq
-compare-eq x y h k =
-    let e : x ≡ y = omega arith in
-    rw e (compare_self y)
+-- numbers compared: as the code does it
+nat_cmp-is : (x y : ℕ) → nat_cmp x y ≡ side_of (compare x y)
+nat_cmp-is x y = by (ltb x y) refl (eqb x y) refl
+  where
+    by : (b : Bool) → ltb x y ≡ b → (d : Bool) → eqb x y ≡ d → cond b Less (cond d Equal Greater) ≡ side_of (compare x y)
+    by true e d f = rw (less-compare x y (ltb-true x y e))
+    by false e true f =
+        let p : x ≡ y = eqb-true x y f in
+        rw (p, compare_self y)
+    by false e false f = rw (compare-gt x y (omega (arith, ltb-false x y e, eqb-false x y f)))
 
-module _ (xs ys : List ℕ) (i : ℕ) (o : Ordering) (e : o ≡ lex (drop i xs) (drop i ys)) where
-  -- at place i the comparison is one of numbers, and then that of the rest
-  lex-at : i < length xs → i < length ys → o ≡ then (compare (get_or xs i 0) (get_or ys i 0)) (lex (drop (i + 1) xs) (drop (i + 1) ys))
+module _ (k : ℕ → ℕ) (xs ys xr yr : List ℕ) (x y u v : ℕ) (r : Answer) (a : xs ≡ x ∷ xr) (b : ys ≡ y ∷ yr) (p : u ≡ k x) (q : v ≡ k y) (c : r ≡ nat_cmp u v) where
+  is : r ≡ side_of (compare (k x) (k y))
+  is = rw (c, p, q) (nat_cmp-is (k x) (k y))
+
+  -- the keys of the first words differ: they decide
+  pub keys-differ : is_ne r ≡ true → r ≡ side_of (lex (map k xs) (map k ys))
   unfolding lex
-  lex-at hx hy = e ∙ rw (drop-cons xs i 0, drop-cons ys i 0, add-one i)
+  keys-differ h = rw (a, b) (by (compare (k x) (k y)) is)
+    where
+      by : (o : Ordering) → r ≡ side_of o → r ≡ side_of (then o (lex (map k xr) (map k yr)))
+      by Ordering.lt e = e
+      by Ordering.eq e = absurd (false≢true (ap is_ne (sym e) ∙ h))
+      by Ordering.gt e = e
 
-  pub lex-lt : i < length xs → i < length ys → get_or xs i 0 < get_or ys i 0 → o ≡ Ordering.lt
-  lex-lt hx hy h = lex-at hx hy ∙ rw (less-compare (get_or xs i 0) (get_or ys i 0) h)
-
-  pub lex-gt : i < length xs → i < length ys → get_or ys i 0 < get_or xs i 0 → o ≡ Ordering.gt
-  lex-gt hx hy h = lex-at hx hy ∙ rw (compare-gt (get_or xs i 0) (get_or ys i 0) h)
-
-  pub lex-more : i < length xs → i < length ys → get_or xs i 0 ≤ get_or ys i 0 → get_or ys i 0 ≤ get_or xs i 0 → o ≡ lex (drop (i + 1) xs) (drop (i + 1) ys)
-  lex-more hx hy h k = lex-at hx hy ∙ rw (compare-eq (get_or xs i 0) (get_or ys i 0) h k)
-
-  -- one list is at its end
-  pub lex-short : length xs ≤ i → i < length ys → o ≡ Ordering.lt
+  -- they are the same: the rest decides
+  pub keys-same : is_ne r ≡ false → lex (map k xs) (map k ys) ≡ lex (map k xr) (map k yr)
   unfolding lex
-  lex-short hx hy = e ∙ rw (drop_of_length-le xs hx, drop-cons ys i 0)
+  keys-same h = rw (a, b) (by (compare (k x) (k y)) is)
+    where
+      by : (o : Ordering) → r ≡ side_of o → then o (lex (map k xr) (map k yr)) ≡ lex (map k xr) (map k yr)
+      by Ordering.lt e = absurd (true≢false (ap is_ne (sym e) ∙ h))
+      by Ordering.eq e = refl
+      by Ordering.gt e = absurd (true≢false (ap is_ne (sym e) ∙ h))
 
-  pub lex-long : i < length xs → length ys ≤ i → o ≡ Ordering.gt
-  unfolding lex
-  lex-long hx hy = e ∙ rw (drop-cons xs i 0, drop_of_length-le ys hy)
+-- one list is at its end: the longer one comes after
+pub keys-end : (k : ℕ → ℕ) (xs ys : List ℕ) (m n : ℕ) → m + length ys ≡ n + length xs → (length xs ≡ 0) ⊎ (length ys ≡ 0)
+    → nat_cmp m n ≡ side_of (lex (map k xs) (map k ys))
+unfolding lex
+keys-end k [] [] m n e h =
+    let p : m ≡ n = omega arith in
+    rw p (nat_cmp-is n n ∙ ap side_of (compare_self n))
+keys-end k [] (y ∷ ys) m n e h = nat_cmp-is m n ∙ ap side_of (less-compare m n (omega arith))
+keys-end k (x ∷ xs) [] m n e h = nat_cmp-is m n ∙ ap side_of (compare-gt m n (omega arith))
+keys-end k (x ∷ xs) (y ∷ ys) m n e h = elim h [ inl p ↦ absurd (omega arith) | inr p ↦ absurd (omega arith) ]
 
-  pub lex-both : length xs ≤ i → length ys ≤ i → o ≡ Ordering.eq
-  unfolding lex
-  lex-both hx hy = e ∙ rw (drop_of_length-le xs hx, drop_of_length-le ys hy)
+-- first by one key, then by another
+pub first-then : (o p : Ordering) (r s : Answer) → r ≡ side_of o → (r ≡ Less → s ≡ Less) → (r ≡ Equal → s ≡ side_of p) → (r ≡ Greater → s ≡ Greater)
+    → is_gt s ≡ comes_after (then o p)
+first-then Ordering.lt p r s e l m g = ap is_gt (l e)
+first-then Ordering.eq p r s e l m g = ap is_gt (m e) ∙ gt-is p
+  where
+    gt-is : (o : Ordering) → is_gt (side_of o) ≡ comes_after o
+    gt-is Ordering.lt = refl
+    gt-is Ordering.eq = refl
+    gt-is Ordering.gt = refl
+first-then Ordering.gt p r s e l m g = ap is_gt (g e)
 
--- one part that differs decides, whatever the parts before it say
-fourth-differs : (h v t : Bool) → false ≡ (true && h && v && false && t)
-fourth-differs true true t = refl
-fourth-differs true false t = refl
-fourth-differs false true t = refl
-fourth-differs false false t = refl
+-- a second test is made where the first holds
+pub and-next : (r p q : Bool) → p ≡ true → r ≡ q → r ≡ (p && q)
+and-next r p q h e = rw h e
 
-third-differs : (h k t : Bool) → false ≡ (true && h && false && k && t)
-third-differs true k t = refl
-third-differs false k t = refl
+pub and-stop : (r p q : Bool) → p ≡ false → r ≡ false → r ≡ (p && q)
+and-stop r p q h e = rw h e
 
--- the configuration of words against another, by the first difference that is met: of the state, the counters, the values, the variables held
-module _ (ws : List ℕ) (c : Configuration) where
-  abbrev held_same : Bool
-  held_same = same_list beq (map is_set (take 8 (drop 1 ws))) c.held
-
-  abbrev values_same : Bool
-  values_same = same_list eqb (take 8 (drop 9 ws)) c.values
-
-  abbrev counters-same : Bool
-  counters-same = same_list eqb (take 16 (drop 17 ws)) c.counters
-
-  abbrev tallies-same : Bool
-  tallies-same = same_list eqb (take 12 (drop 33 ws)) c.tallies
-
-  pub differs-state : (get_or ws 0 0 ≡ c.state → ⊥) → false ≡ same_words (thread_of ws).config c
-  unfolding same_words thread_of
-  differs-state h = rw (ne_eqb (get_or ws 0 0) c.state h)
-
-  module _ (state : get_or ws 0 0 ≡ c.state) where
-    pub differs-counters : counters-same ≡ false → false ≡ same_words (thread_of ws).config c
-    unfolding same_words thread_of
-    differs-counters h = rw (eq-eqb (get_or ws 0 0) c.state state, h) (fourth-differs held_same values_same tallies-same)
-
-    module _ (counters : counters-same ≡ true) where
-      pub differs-values : values_same ≡ false → false ≡ same_words (thread_of ws).config c
-      unfolding same_words thread_of
-      differs-values h = rw (eq-eqb (get_or ws 0 0) c.state state, h) (third-differs held_same counters-same tallies-same)
-
-      module _ (values : values_same ≡ true) where
-        pub differs-held : held_same ≡ false → false ≡ same_words (thread_of ws).config c
-        unfolding same_words thread_of
-        differs-held h = rw (eq-eqb (get_or ws 0 0) c.state state, h)
-
-        pub by-tallies : held_same ≡ true → (r : Bool) → r ≡ tallies-same → r ≡ same_words (thread_of ws).config c
-        unfolding same_words thread_of
-        by-tallies h r e = rw (eq-eqb (get_or ws 0 0) c.state state, h, values, counters, e)
+-- five tests in the order of the code, and in that of the configuration's fields
+pub in_order : (state held values counters tallies : Bool)
+    → ((((state && counters) && values) && held) && tallies) ≡ (state && held && values && counters && tallies)
+in_order false h v k t = refl
+in_order true true true true t = refl
+in_order true true true false t = refl
+in_order true true false true t = refl
+in_order true true false false t = refl
+in_order true false true true t = refl
+in_order true false true false t = refl
+in_order true false false true t = refl
+in_order true false false false t = refl

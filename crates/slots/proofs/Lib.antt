@@ -1,5 +1,4 @@
 -- Laws of threads and of the words that hold them.
-pub mod Copying
 pub mod Comparing
 pub mod Trails
 pub mod Parts

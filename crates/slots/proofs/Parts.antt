@@ -1,11 +1,12 @@
 -- Writing words into a list: what stands where, before, behind and at them.
 use Prim.Native.Nat.{ℕ, zero, suc, ◌+◌, ◌-◌, ◌<◌, ◌≤◌}
 use mathlib.Core.Path.{◌≡◌, refl, ap, sym, ◌∙◌}
-use mathlib.Core.List.{List, [], ◌∷◌, ◌++◌, append-nil, append_assoc}
+use mathlib.Core.List.{List, [], ◌∷◌, ◌++◌, append_assoc}
 use native.Mathlib.Numerals.{add-one}
 use native.Mathlib.Omega.{arith}
-use lib.ListN.{length, get_or, take, drop, set, length-append, length-drop, drop_of_length-le, take-append-drop}
-use lib.Seq.{take-length, take_at, drop_at, drop-drop, drop-cons, set_at, length-take-le, take-append-le, drop-append-le, take-take, paste, paste-suc}
+use lib.ListN.{length, get_or, take, drop, set, length-append, length-drop, take-append-drop}
+use lib.Seq.{take_at, drop_at, drop-drop, drop-cons, set_at, length-take-le, take-append-le, drop-append-le, take-take}
+use borrow.Rule.Slice.PartMut.{put_mid}
 use Rattle.slots.specs.inner.Words.{put}
 
 -- a part that lies within the list has its length
@@ -21,21 +22,10 @@ part-take (suc j) k zero l h = absurd (omega arith)
 part-take (suc j) k (suc n) [] h = refl
 part-take (suc j) k (suc n) (x ∷ l) h = part-take j k n l (omega arith)
 
--- a whole list is written over
-pub put_whole : (l ws : List ℕ) → length ws ≡ length l → put l 0 ws ≡ ws
+-- as a part that is written over leaves it
+pub mid-put : (a n : ℕ) (l ws vs : List ℕ) → ws ≡ vs → length vs ≡ n → put_mid a n l ws ≡ put l a vs
 unfolding put
-put_whole l ws e =
-    let d : drop (0 + length ws) l ≡ [] = drop_of_length-le l {i = 0 + length ws} (omega arith) in
-    rw d (append-nil ws)
-
--- one turn more of writing words
-pub written-more : (l w ws : List ℕ) (at i : ℕ) → at + length ws ≤ length l → i < length ws → w ≡ paste l at ws i
-    → set w (at + i) (get_or ws i 0) ≡ paste l at ws (i + 1)
-written-more l w ws at i h k e = rw (e, add-one i) (paste-suc l at ws i 0 (omega arith) k)
-
-pub written_all : (l w ws : List ℕ) (at i : ℕ) → i ≡ length ws → w ≡ paste l at ws i → w ≡ put l at ws
-unfolding put
-written_all l w ws at i h e = e ∙ rw (h, take-length ws) (append_assoc (take at l) ws (drop (at + length ws) l))
+mid-put a n l ws vs e h = rw (e, ← h) (ap (λ x. take a l ++ (vs ++ x)) (drop-drop (length vs) a l))
 
 pub put-length : (l : List ℕ) (a : ℕ) (ws : List ℕ) → a + length ws ≤ length l → length (put l a ws) ≡ length l
 unfolding put

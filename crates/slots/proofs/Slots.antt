@@ -1,5 +1,5 @@
 -- The threads of the slots: storing into one slot leaves every other slot's and the other half's threads alone.
-use Prim.Native.Nat.{ℕ, zero, suc, ◌+◌, ◌-◌, ◌<◌, ◌≤◌, min}
+use Prim.Native.Nat.{ℕ, zero, suc, ◌+◌, ◌<◌, ◌≤◌, min}
 use mathlib.Core.Path.{◌≡◌, refl, ap, sym, ◌∙◌}
 use mathlib.Core.Bool.{Bool, true, false}
 use mathlib.Core.List.{List, [], ◌∷◌, ◌++◌}
@@ -7,8 +7,8 @@ use native.Mathlib.Numerals.{add-one}
 use native.Mathlib.Omega.{arith}
 use borrow.Author.Tests.{ltb-true, ltb-false}
 use lib.Dec.{ltb}
-use lib.ListN.{length, get_or, take, drop, set, length-drop}
-use lib.Seq.{get_or-drop, drop-drop, take-take}
+use lib.ListN.{length, get_or, take, drop, set}
+use lib.Seq.{get_or-drop, take-take}
 use Rattle.runs.specs.inner.Order.{order}
 use Rattle.slots.specs.declared.Thread.{Thread}
 use Rattle.slots.specs.inner.Threads.{Sized, trail_of, word_order}
@@ -17,26 +17,17 @@ use Rattle.slots.proofs.Parts.{part_length, drop-put, drop-put-behind, part-put-
 use Rattle.slots.proofs.Trails.{later-is}
 use Rattle.slots.proofs.Words.{thread-take, thread-of-words, words-length}
 
--- the thread of a slot's part is that of the words from where it begins
-pub part-thread : (l : List ℕ) (a e p : ℕ) → a ≡ p → e ≡ a + 96 → thread_of (take (e - a) (drop a l)) ≡ thread_at l p
-part-thread l a e p q h = thread-take (e - a) (drop a l) (omega arith) ∙ ap (thread_at l) q
+-- the thread of a half's words is that of the words from where it begins
+pub half-thread : (l h : List ℕ) (p : ℕ) → h ≡ take 96 (drop p l) → thread_of h ≡ thread_at l p
+half-thread l h p e = ap thread_of e ∙ thread-take 96 (drop p l) (omega arith)
 
--- a part of the list, taken from where a slot's half begins
-pub slot-part : (l : List ℕ) (a e p j n : ℕ) → a ≡ p + j → e ≡ a + n → take (e - a) (drop a l) ≡ take n (drop j (drop p l))
-slot-part l a e p j n q h =
-    let d : e - a ≡ n = omega arith in
-    ap (λ i. take i (drop a l)) d ∙ ap (λ i. take n (drop i l)) q ∙ ap (take n) (sym (drop-drop j p l))
-
--- the words of a slot's trail, compared where they stand: the order of its thread's trail
-pub later-there : (l : List ℕ) (b : Thread) (a m p k n : ℕ) → a ≡ p + 46 → m ≡ a + k → p + 78 ≤ length l → length b.trail ≡ 32
-    → k ≡ min (thread_at l p).steps 32 → n ≡ min b.steps 32
-    → word_order (take (m - a) (drop a l)) (take n b.trail) ≡ order (trail_of (thread_at l p)) (trail_of b)
+-- the words of its trail compared: the order of its thread's trail
+pub later-there : (h : List ℕ) (b : Thread) (m k n : ℕ) → m ≡ k → 78 ≤ length h → length b.trail ≡ 32 → k ≡ min (get_or h 45 0) 32 → n ≡ min b.steps 32
+    → word_order (take m (drop 46 h)) (take n b.trail) ≡ order (trail_of (thread_of h)) (trail_of b)
 unfolding thread_of
-later-there l b a m p k n q h z s e f =
-    let d : length (drop p l) ≡ length l - p = length-drop p l in
-    let w : take (m - a) (drop a l) ≡ take k (thread_at l p).trail = slot-part l a m p 46 k q h
-    ∙ sym (take-take k 32 (drop 46 (drop p l)) (omega arith)) in
-    rw w (later-is (thread_at l p) b (part_length 46 32 (drop p l) (omega arith)) s k n e f)
+later-there h b m k n q z s e f =
+    let w : take m (drop 46 h) ≡ take k (take 32 (drop 46 h)) = ap (λ i. take i (drop 46 h)) q ∙ sym (take-take k 32 (drop 46 h) (omega arith)) in
+    rw w (later-is (thread_of h) b (part_length 46 32 h (omega arith)) s k n e f)
 
 module _ (l : List ℕ) (t : Thread) (s : Sized t) where
   -- where a thread was stored it is read back

@@ -1,5 +1,5 @@
 -- A thread's trail: its length, its events and step numbers, and one step more.
-use Prim.Native.Nat.{ℕ, ◌+◌, ◌*◌, ◌/◌, ◌%◌, ◌<◌, ◌≤◌, min, Ordering}
+use Prim.Native.Nat.{ℕ, ◌+◌, ◌*◌, ◌/◌, ◌%◌, ◌<◌, ◌≤◌, min}
 use mathlib.Core.Path.{◌≡◌, refl, ap, sym, ◌∙◌}
 use mathlib.Core.Bool.{Bool, true, false}
 use mathlib.Core.List.{List, map, map-map, map-append}
@@ -11,11 +11,9 @@ use borrow.Author.Tests.{leb-true, leb-false}
 use lib.Seq.{take_all, take-suc-set}
 use Rattle.runs.specs.Run.{Entry}
 use Rattle.runs.specs.Order.{events, numbers}
-use Rattle.runs.specs.inner.Order.{order, lex, then}
+use Rattle.runs.specs.inner.Order.{order}
 use Rattle.slots.specs.declared.Thread.{Thread}
-use Rattle.slots.specs.declared.Side.{Side}
-use Rattle.slots.specs.declared.Side.TheVariants.{Lesser, Equal, Greater}
-use Rattle.slots.specs.inner.Threads.{entry_of, trail_of, Sized, comes_after, with_step, Extended, key, side_of, word_order}
+use Rattle.slots.specs.inner.Threads.{entry_of, trail_of, Sized, with_step, Extended, word_order}
 
 -- a trail has as many entries as steps were taken, 32 at most
 pub trail-length : (t : Thread) → Sized t → length (trail_of t) ≡ min t.steps 32
@@ -37,38 +35,13 @@ take-capped l n m e h = go (leb n 32) refl
 
 module _ (t : Thread) (s : length t.trail ≡ 32) (m : ℕ) (h : m ≡ min t.steps 32) where
   -- the words' events and step numbers are the trail's
-  trail-events : map (key false) (take m t.trail) ≡ events (trail_of t)
+  trail-events : map (λ w. w / 8) (take m t.trail) ≡ events (trail_of t)
   unfolding trail_of
-  trail-events = ap (map (key false)) (take-capped t.trail t.steps m s h) ∙ sym (map-map (λ (x : Entry). x.event) entry_of (take t.steps t.trail))
+  trail-events = ap (map (λ w. w / 8)) (take-capped t.trail t.steps m s h) ∙ sym (map-map (λ (x : Entry). x.event) entry_of (take t.steps t.trail))
 
-  trail-numbers : map (key true) (take m t.trail) ≡ numbers (trail_of t)
+  trail-numbers : map (λ w. w % 8) (take m t.trail) ≡ numbers (trail_of t)
   unfolding trail_of
-  trail-numbers = ap (map (key true)) (take-capped t.trail t.steps m s h) ∙ sym (map-map (λ (x : Entry). x.step) entry_of (take t.steps t.trail))
-
--- the comparison that a side stands for
-abbrev pub order_of : Side → Ordering
-order_of Lesser = Ordering.lt
-order_of Equal = Ordering.eq
-order_of Greater = Ordering.gt
-
--- so the comparison is known from its side
-told : (o : Ordering) (s t : Side) → s ≡ side_of o → s ≡ t → o ≡ order_of t
-told o s t e h = back o ∙ ap order_of (sym e ∙ h)
-  where
-    back : (o : Ordering) → o ≡ order_of (side_of o)
-    back Ordering.lt = refl
-    back Ordering.eq = refl
-    back Ordering.gt = refl
-
-module _ (a b : List ℕ) (s : Side) (e : s ≡ side_of (lex (map (key false) a) (map (key false) b))) where
-  -- the events decide where they differ
-  pub by-events : (u : Side) → s ≡ u → comes_after (then (order_of u) (lex (map (key true) a) (map (key true) b))) ≡ comes_after (word_order a b)
-  unfolding word_order
-  by-events u h = ap (λ o. comes_after (then o (lex (map (key true) a) (map (key true) b)))) (sym (told (lex (map (key false) a) (map (key false) b)) s u e h))
-
-  -- where they are equal the step numbers do
-  pub by-numbers : s ≡ Equal → (t u : Side) → t ≡ side_of (lex (map (key true) a) (map (key true) b)) → t ≡ u → comes_after (order_of u) ≡ comes_after (word_order a b)
-  by-numbers h t u f k = ap comes_after (sym (told (lex (map (key true) a) (map (key true) b)) t u f k)) ∙ by-events Equal h
+  trail-numbers = ap (map (λ w. w % 8)) (take-capped t.trail t.steps m s h) ∙ sym (map-map (λ (x : Entry). x.step) entry_of (take t.steps t.trail))
 
 -- first by the events, then by the step numbers: the order of the trails
 pub later-is : (a b : Thread) → length a.trail ≡ 32 → length b.trail ≡ 32 → (m n : ℕ) → m ≡ min a.steps 32 → n ≡ min b.steps 32

@@ -1,5 +1,5 @@
 -- A thread and its 78 words: read back as it was stored, whatever stands behind.
-use Prim.Native.Nat.{ℕ, ◌+◌, ◌-◌, ◌≤◌}
+use Prim.Native.Nat.{ℕ, suc, ◌+◌, ◌-◌, ◌≤◌, ◌<◌}
 use mathlib.Core.Path.{◌≡◌, refl, ap, sym, ◌∙◌}
 use mathlib.Core.Bool.{Bool, true, false}
 use mathlib.Core.List.{List, [], ◌∷◌, ◌++◌, map, append_assoc}
@@ -33,6 +33,17 @@ thread-take n ws h =
       part-take 33 12 n ws (omega arith),
       part-take 46 32 n ws (omega arith),
     )
+
+-- a list whose elements are another's by a function
+pub mapped : {A B : Type 0} (f : A → B) (xs : List A) (ys : List B) (d : A) (e : B) → length ys ≡ length xs
+    → ((i : ℕ) → i < length xs → get_or ys i e ≡ f (get_or xs i d)) → ys ≡ map f xs
+mapped f [] [] d e l h = refl
+mapped f [] (y ∷ ys) d e l h = absurd (omega arith)
+mapped f (x ∷ xs) [] d e l h = absurd (omega arith)
+mapped f (x ∷ xs) (y ∷ ys) d e l h =
+    let p : y ≡ f x = h 0 (omega arith) in
+    let q : ys ≡ map f xs = mapped f xs ys d e (omega arith) (λ i m. h (suc i) (omega arith)) in
+    cc
 
 flags-back : (h : List Bool) → map is_set (map bit h) ≡ h
 flags-back [] = refl

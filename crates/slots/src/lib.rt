@@ -1,15 +1,14 @@
 // Threads kept in lent words: loading and storing a slot (the paper's seat), and inserting a thread into a list of them.
 #![tactic(auto)]
 
-ghost use Rattle.std.specs.Prelude.{◌≡◌, ◌++◌, map, eqb, ◌+◌, ◌*◌, ◌^◌, ◌≤◌, ◌<◌, min, length, get_or, drop};
-ghost use Rattle.std.specs.Bool.{beq};
+ghost use Rattle.std.specs.Prelude.{◌≡◌, ℕ, ◌++◌, map, eqb, ◌+◌, ◌*◌, ◌^◌, ◌≤◌, ◌<◌, min, length, get_or, take, drop};
 ghost use Rattle.runs.specs.inner.Order.{lex, order};
 ghost use Rattle.base.specs.Lists.{same_list};
-ghost use Rattle.base.specs.Mask.{bit};
-ghost use Rattle.slots.specs.inner.Threads.{origin_thread, trail_of, same_words, comes_after, Extended, key, side_of, word_order};
+ghost use Rattle.slots.specs.inner.Threads.{origin_thread, trail_of, same_words, comes_after, Extended, Computes, side_of, word_order};
 ghost use Rattle.slots.specs.inner.Words.{is_set, words_of, thread_of, thread_at, put, place, FoundFrom, InsertedAt, KeptAt};
 
 use machine_code::Configuration;
+use std::cmp::Ordering;
 
 // A configuration with its trail: the number of steps taken and, for each of them, event * 8 + step number.
 #[derive(Clone, Copy)]
@@ -23,65 +22,35 @@ pub struct Thread {
 pub fn origin() -> Thread
     ensures { result ≡ origin_thread }
 {
-    let config = Configuration {
-        state: 0,
-        held: [false; 8],
-        values: [0u32; 8],
-        counters: [0u32; 16],
-        tallies: [0u32; 12],
-    };
     Thread {
-        config,
+        config: Configuration {
+            state: 0,
+            held: [false; 8],
+            values: [0; 8],
+            counters: [0; 16],
+            tallies: [0; 12],
+        },
         steps: 0,
-        trail: [0u32; 32],
+        trail: [0; 32],
     }
 }
 
-// How one list of numbers compares with another.
-#[derive(Clone, Copy)]
-enum Side {
-    Lesser,
-    Equal,
-    Greater,
-}
-
-// Writes words into a part, from an offset on.
-fn write(part: &mut [u32], at: usize, words: &[u32])
-    requires { at + length words.now ≤ length part.old }
-    ensures { part.new ≡ put part.old at words.now }
+// So many words of a part, from an offset on.
+fn words_at<const N: usize>(part: &[u32], at: usize) -> [u32; N]
+    requires { at + N ≤ length part.now }
+    ensures { result ≡ take N (drop at part.now) }
 {
-    let mut i: usize = 0;
-    while i < words.len() {
-        part[at + i] = words[i];
-        i += 1;
-    }
-}
-
-// Which variables are held, a word each.
-fn flag_words(held: [bool; 8]) -> [u32; 8]
-    ensures { result ≡ map bit held }
-{
-    let mut words = [0u32; 8];
-    let mut i: usize = 0;
-    while i < 8 {
-        words[i] = base::bit_of(held[i]);
-        i += 1;
-    }
+    let mut words = [0; N];
+    words.copy_from_slice(&part[at..at + N]);
     words
 }
 
 // Which variables are held, from a word each.
-fn flags_of(part: &[u32]) -> [bool; 8]
-    requires { length part.now ≡ 8 }
-    ensures { result ≡ map is_set part.now }
+fn held_in(part: &[u32]) -> [bool; 8]
+    requires { 9 ≤ length part.now }
+    ensures { result ≡ map is_set (take 8 (drop 1 part.now)) }
 {
-    let mut held = [false; 8];
-    let mut i: usize = 0;
-    while i < 8 {
-        held[i] = part[i] != 0;
-        i += 1;
-    }
-    held
+    words_at::<8>(part, 1).map(|word| word != 0)
 }
 
 // The thread that a half's words hold.
@@ -89,26 +58,16 @@ pub fn load(part: &[u32]) -> Thread
     requires { 78 ≤ length part.now }
     ensures { result ≡ thread_of part.now }
 {
-    let held = flags_of(&part[1..9]);
-    let mut values = [0u32; 8];
-    write(&mut values, 0, &part[9..17]);
-    let mut counters = [0u32; 16];
-    write(&mut counters, 0, &part[17..33]);
-    let mut tallies = [0u32; 12];
-    write(&mut tallies, 0, &part[33..45]);
-    let mut trail = [0u32; 32];
-    write(&mut trail, 0, &part[46..78]);
-    let config = Configuration {
-        state: part[0],
-        held,
-        values,
-        counters,
-        tallies,
-    };
     Thread {
-        config,
+        config: Configuration {
+            state: part[0],
+            held: held_in(part),
+            values: words_at(part, 9),
+            counters: words_at(part, 17),
+            tallies: words_at(part, 33),
+        },
         steps: part[45],
-        trail,
+        trail: words_at(part, 46),
     }
 }
 
@@ -117,20 +76,13 @@ pub fn store(part: &mut [u32], t: Thread)
     requires { 78 ≤ length part.old }
     ensures { part.new ≡ words_of t ++ drop 78 part.old }
 {
-    let c = t.config;
-    let held = c.held;
-    let flags = flag_words(held);
-    let values = c.values;
-    let counters = c.counters;
-    let tallies = c.tallies;
-    let trail = t.trail;
-    part[0] = c.state;
-    write(part, 1, &flags);
-    write(part, 9, &values);
-    write(part, 17, &counters);
-    write(part, 33, &tallies);
+    part[0] = t.config.state;
+    part[1..9].copy_from_slice(&t.config.held.map(u32::from));
+    part[9..17].copy_from_slice(&t.config.values);
+    part[17..33].copy_from_slice(&t.config.counters);
+    part[33..45].copy_from_slice(&t.config.tallies);
     part[45] = t.steps;
-    write(part, 46, &trail);
+    part[46..78].copy_from_slice(&t.trail);
 }
 
 // Where a half of a slot begins. Here alone stands the arithmetic of slots.
@@ -141,14 +93,23 @@ fn offset(slot: usize, half: usize) -> usize
     slot * 192 + half * 96
 }
 
+// The words of one half of a slot. Slot and half stay two numbers here and below, since callers count slots and change halves: a
+// struct of both would be built anew at each call.
+fn half_of(work: &[u32], slot: usize, half: usize) -> &[u32]
+    requires { (slot * 192 + 192 ≤ length work.now) × (half < 2) }
+    ensures words { result.now ≡ take 96 (drop (place half slot) work.now) }
+    ensures long { length result.now ≡ 96 }
+{
+    let at = offset(slot, half);
+    &work[at..at + 96]
+}
+
 // The thread of a slot in one half.
 pub fn load_slot(work: &[u32], slot: usize, half: usize) -> Thread
     requires { (slot * 192 + 192 ≤ length work.now) × (half < 2) }
     ensures { result ≡ thread_at work.now (place half slot) }
 {
-    let a = offset(slot, half);
-    let e = a + 96;
-    load(&work[a..e])
+    load(half_of(work, slot, half))
 }
 
 // The variables that a thread holds, with their values.
@@ -163,14 +124,11 @@ pub fn bound_at(work: &[u32], slot: usize, half: usize) -> Bound
     requires { (slot * 192 + 192 ≤ length work.now) × (half < 2) }
     ensures { (result.held ≡ (thread_at work.now (place half slot)).config.held) × (result.values ≡ (thread_at work.now (place half slot)).config.values) }
 {
-    let a = offset(slot, half);
-    let f = a + 1;
-    let v = a + 9;
-    let e = a + 17;
-    let held = flags_of(&work[f..v]);
-    let mut values = [0u32; 8];
-    write(&mut values, 0, &work[v..e]);
-    Bound { held, values }
+    let part = half_of(work, slot, half);
+    Bound {
+        held: held_in(part),
+        values: words_at(part, 9),
+    }
 }
 
 // The state of a slot's thread in one half.
@@ -178,8 +136,7 @@ pub fn state_at(work: &[u32], slot: usize, half: usize) -> u32
     requires { (slot * 192 + 192 ≤ length work.now) × (half < 2) }
     ensures { result ≡ get_or work.now (place half slot) 0 }
 {
-    let a = offset(slot, half);
-    work[a]
+    half_of(work, slot, half)[0]
 }
 
 // The number of steps of a slot's thread in one half.
@@ -187,8 +144,7 @@ pub fn steps_at(work: &[u32], slot: usize, half: usize) -> u32
     requires { (slot * 192 + 192 ≤ length work.now) × (half < 2) }
     ensures { result ≡ get_or work.now (place half slot + 45) 0 }
 {
-    let a = offset(slot, half);
-    work[a + 45]
+    half_of(work, slot, half)[45]
 }
 
 // Writes a thread into one half of a slot.
@@ -196,9 +152,8 @@ pub fn store_slot(work: &mut [u32], slot: usize, half: usize, t: Thread)
     requires { (slot * 192 + 192 ≤ length work.old) × (half < 2) }
     ensures { work.new ≡ put work.old (place half slot) (words_of t) }
 {
-    let a = offset(slot, half);
-    let e = a + 96;
-    store(&mut work[a..e], t);
+    let at = offset(slot, half);
+    store(&mut work[at..at + 96], t);
 }
 
 // Whether two parts hold the same words.
@@ -206,200 +161,123 @@ pub fn same_words(part: &[u32], words: &[u32]) -> bool
     requires { length words.now ≡ length part.now }
     ensures { result ≡ same_list eqb part.now words.now }
 {
-    let mut i: usize = 0;
-    while i < part.len() {
-        if part[i] != words[i] {
-            return false;
-        }
-        i += 1;
-    }
-    true
-}
-
-// Whether a word says what a flag says.
-fn agrees(word: u32, held: bool) -> bool
-    ensures { result ≡ beq (is_set word) held }
-{
-    if held { word != 0 } else { word == 0 }
-}
-
-// Whether a part's words hold the same variables.
-fn same_flags(part: &[u32], held: [bool; 8]) -> bool
-    requires { length part.now ≡ 8 }
-    ensures { result ≡ same_list beq (map is_set part.now) held }
-{
-    let mut i: usize = 0;
-    while i < 8 {
-        if agrees(part[i], held[i]) {
-            i += 1;
-        } else {
-            return false;
-        }
-    }
-    true
+    part == words
 }
 
 // Whether a half's words hold a configuration's, the counters first, which tell most apart; the trail is not looked at.
-fn same_at(part: &[u32], c: Configuration) -> bool
+fn same_at(part: &[u32], c: &Configuration) -> bool
     requires { 78 ≤ length part.now }
-    ensures { result ≡ same_words (thread_of part.now).config c }
+    ensures { result ≡ same_words (thread_of part.now).config c.now }
 {
-    if part[0] != c.state {
-        return false;
-    }
-    let counters = c.counters;
-    if !same_words(&part[17..33], &counters) {
-        return false;
-    }
-    let values = c.values;
-    if !same_words(&part[9..17], &values) {
-        return false;
-    }
-    let held = c.held;
-    if !same_flags(&part[1..9], held) {
-        return false;
-    }
-    let tallies = c.tallies;
-    same_words(&part[33..45], &tallies)
+    part[0] == c.state
+        && words_at(part, 17) == c.counters
+        && words_at(part, 9) == c.values
+        && held_in(part) == c.held
+        && words_at(part, 33) == c.tallies
 }
 
-// What a trail word is compared by: its event, or its step number.
-fn key_of(number: bool, word: u32) -> u32
-    ensures { result ≡ key number word }
+// Compares two trails by a key of each word, at the first words whose keys differ.
+fn compared<Key: Fn(u32) -> u32>(a: &[u32], b: &[u32], key: Key) -> Ordering
+    requires { (x : _) → Key.pre key x }
+    ensures { (k : ℕ → ℕ) → Computes (Key.post key) k → result ≡ side_of (lex (map k a.now) (map k b.now)) }
 {
-    if number { word % 8 } else { word / 8 }
-}
-
-// Compares two trails at the first difference of their events, or of their step numbers.
-fn compared(a: &[u32], b: &[u32], number: bool) -> Side
-    ensures { result ≡ side_of (lex (map (key number) a.now) (map (key number) b.now)) }
-{
-    let mut i: usize = 0;
-    while i < a.len() {
-        if b.len() <= i {
-            return Side::Greater;
+    for (x, y) in a.iter().zip(b) {
+        let order = key(*x).cmp(&key(*y));
+        if order.is_ne() {
+            return order;
         }
-        let x = key_of(number, a[i]);
-        let y = key_of(number, b[i]);
-        if x < y {
-            return Side::Lesser;
-        }
-        if y < x {
-            return Side::Greater;
-        }
-        i += 1;
     }
-    if i < b.len() {
-        Side::Lesser
-    } else {
-        Side::Equal
-    }
+    a.len().cmp(&b.len())
 }
 
 // Whether one trail comes after another: first by the events, then by the step numbers, compared only where the events are equal.
 fn comes_after(a: &[u32], b: &[u32]) -> bool
     ensures { result ≡ comes_after (word_order a.now b.now) }
 {
-    let events = compared(a, b, false);
-    match events {
-        Side::Lesser => false,
-        Side::Greater => true,
-        Side::Equal => {
-            let numbers = compared(a, b, true);
-            match numbers {
-                Side::Lesser => false,
-                Side::Equal => false,
-                Side::Greater => true,
-            }
-        }
-    }
+    let events = compared(a, b, |word| word / 8);
+    events.then_with(|| compared(a, b, |word| word % 8)).is_gt()
 }
 
 // How many words of a trail count: one a step, at most 32.
 pub fn capped(steps: u32) -> usize
     ensures { result ≡ min steps 32 }
 {
-    base::lower(steps as usize, 32)
+    steps.min(32) as usize
 }
 
 // Whether a's trail comes after b's: first by the events, then by the step numbers.
 pub fn later(a: Thread, b: Thread) -> bool
     ensures { result ≡ comes_after (order (trail_of a) (trail_of b)) }
 {
-    let m = capped(a.steps);
-    let n = capped(b.steps);
-    let ours = a.trail;
-    let theirs = b.trail;
-    comes_after(&ours[..m], &theirs[..n])
+    comes_after(&a.trail[..capped(a.steps)], &b.trail[..capped(b.steps)])
 }
 
-// Whether the trail of a slot's thread comes after b's, compared where its words stand.
-fn later_at(work: &[u32], slot: usize, half: usize, b: Thread) -> bool
-    requires { (slot * 192 + 192 ≤ length work.now) × (half < 2) }
-    ensures { result ≡ comes_after (order (trail_of (thread_at work.now (place half slot))) (trail_of b)) }
+// Whether the trail of a half's thread comes after b's, compared where its words stand.
+fn later_at(part: &[u32], b: &Thread) -> bool
+    requires { 78 ≤ length part.now }
+    ensures { result ≡ comes_after (order (trail_of (thread_of part.now)) (trail_of b.now)) }
 {
-    let o = offset(slot, half);
-    let a = o + 46;
-    let m = a + capped(work[o + 45]);
-    let n = capped(b.steps);
-    let theirs = b.trail;
-    comes_after(&work[a..m], &theirs[..n])
+    comes_after(
+        &part[46..46 + capped(part[45])],
+        &b.trail[..capped(b.steps)],
+    )
 }
 
 // A thread with one step more in its trail.
-pub fn with_step(t: Thread, event: u32, number: u32) -> Thread
+pub fn with_step(mut t: Thread, event: u32, number: u32) -> Thread
     requires { (t.steps < 32) × (event < 1024) × (number < 8) }
     ensures { Extended t event number result }
 {
-    let at = t.steps as usize;
-    let mut next = t;
-    next.steps = t.steps + 1;
-    next.trail[at] = event * 8 + number;
-    next
+    t.trail[t.steps as usize] = event * 8 + number;
+    t.steps += 1;
+    t
 }
 
-// The first of the threads from one on whose words hold a configuration's; the count of the threads where there is none.
-pub fn find_from(work: &[u32], half: usize, count: usize, from: usize, c: Configuration) -> usize
-    requires { (count * 192 ≤ length work.now) × (half < 2) × (from ≤ count) }
+// The first of the threads from one on whose words hold a configuration's.
+pub fn find_from(
+    work: &[u32],
+    half: usize,
+    count: usize,
+    from: usize,
+    c: Configuration,
+) -> Option<usize>
+    requires { (count * 192 ≤ length work.now) × (half < 2) }
     ensures { FoundFrom half count from c work.now result }
 {
-    let mut i = from;
-    while i < count {
-        let a = offset(i, half);
-        let e = a + 96;
-        if same_at(&work[a..e], c) {
-            return i;
+    for slot in from..count {
+        if same_at(half_of(work, slot, half), &c) {
+            return Some(slot);
         }
-        i += 1;
     }
-    count
+    None
 }
 
-// Inserts a thread into the list of one half: of it and the thread at a place of the list the lesser trail is kept; where the
-// place is past the list it is appended; without room every word stays. The count of the list then, one more than the slots
-// where there is no room.
+// Inserts a thread into the list of one half: of it and the thread at a place of the list the lesser trail is kept; without a
+// place it is appended; without room every word stays. The count of the list then, none where there is no room.
 pub fn insert_at(
     work: &mut [u32],
     half: usize,
     count: usize,
     slots: usize,
-    at: usize,
+    at: Option<usize>,
     b: Thread,
-) -> usize
+) -> Option<usize>
     requires { (slots * 192 ≤ length work.old) × (half < 2) × (count ≤ slots) }
     ensures { InsertedAt half count slots at b work.old work.new result }
 {
-    if at < count {
-        if later_at(&work[..], at, half, b) {
-            store_slot(work, at, half, b);
+    match at {
+        Some(at) if at < count => {
+            if later_at(half_of(work, at, half), &b) {
+                store_slot(work, at, half, b);
+            }
+            Some(count)
         }
-        return count;
+        _ if count < slots => {
+            store_slot(work, count, half, b);
+            Some(count + 1)
+        }
+        _ => None,
     }
-    if count < slots {
-        store_slot(work, count, half, b);
-        return count + 1;
-    }
-    slots + 1
 }
 
 // Keeps the thread of a slot in one half at the end of the list there, which ends before it.

@@ -1,15 +1,12 @@
--- `slots::compared` meets its contract: what is left to compare decides.
-use Rattle.slots.specs.inner.Threads.{key}
+-- `slots::compared` meets its contract: what is left of both trails decides.
+use Rattle.std.proofs.Common.{◌≡◌, ℕ, ◌+◌, map, length}
 use Rattle.runs.specs.inner.Order.{lex}
-use lib.ListN.{length, drop}
-use mathlib.Core.List.{map}
-use mathlib.Core.Path.{◌≡◌}
-use Prim.Native.Nat.{◌-◌, ◌≤◌}
+use Rattle.slots.specs.inner.Threads.{Computes}
 use Rattle.slots.proofs.compared.Given as goal
 
-abbrev pub invariant-loop-i : goal.invariant-loop-i
-invariant-loop-i l =
-    (l.i ≤ length l.a) × (l.i ≤ length l.b) × (lex (map (key l.number) l.a) (map (key l.number) l.b) ≡ lex (drop l.i (map (key l.number) l.a)) (drop l.i (map (key l.number) l.b)))
-
-abbrev pub decreases-loop-i : goal.decreases-loop-i
-decreases-loop-i l = length l.a - l.i
+abbrev pub invariant-loop-x : goal.invariant-loop-x
+invariant-loop-x g l =
+    (goal.iterator-loop-x g).can_next l.x-iterator
+    × (goal.iterator-loop-x g).is_finite l.x-iterator
+    × (length l.a + length l.x-iterator.b.rest.now ≡ length l.b + length l.x-iterator.a.rest.now)
+    × ((k : ℕ → ℕ) → Computes (goal.Key-post g l.key) k → lex (map k l.a) (map k l.b) ≡ lex (map k l.x-iterator.a.rest.now) (map k l.x-iterator.b.rest.now))

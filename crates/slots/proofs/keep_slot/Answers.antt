@@ -1,6 +1,5 @@
 -- `slots::keep_slot` meets its contract: a thread behind dropped ones moves down.
 use Rattle.slots.proofs.ByPlace.{kept-moved, kept-still, kept-as}
-use Rattle.slots.specs.inner.Threads.{Sized}
 use borrow.Author.Rules.{rules}
 use Rattle.slots.proofs.keep_slot.Goals as goal
 
@@ -9,10 +8,8 @@ returns-then-count-slot c =
     let a = c.args in
     let p = c.requires in
     let x = c.store_slot in
-    let s : Sized a.t =
-    record { held_8 = search rules; values_8 = search rules; counters_16 = search rules; tallies_12 = search rules; trail_32 = search rules } in
     kept-as a.half a.count a.slot a.t a.work.now x.new.work x.ensures
-    (kept-moved a.half a.count a.slot a.t s a.work.now p.0 p.1 c.if-count-slot.true)
+    (kept-moved a.half a.count a.slot a.t (search rules) a.work.now p.0 p.1 c.if-count-slot.true)
 
 pub returns-else-count-slot : goal.returns-else-count-slot
 returns-else-count-slot c =

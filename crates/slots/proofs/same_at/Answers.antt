@@ -1,63 +1,65 @@
--- `slots::same_at` meets its contract: the first difference decides.
-use Rattle.slots.proofs.Comparing.{differs-state, differs-counters, differs-values, differs-held, by-tallies}
-use Rattle.slots.proofs.Parts.{part_length}
-use native.Mathlib.Omega.{arith}
-use lib.ListN.{length}
-use mathlib.Core.Path.{◌≡◌, sym, ◌∙◌}
-use borrow.Author.Rules.{rules}
+-- `slots::same_at` meets its contract: the parts are compared one by one, as long as those before are the same.
+use Rattle.std.proofs.Common.{◌≡◌, ◌∙◌, sym, Bool, ◌&&◌, get_or, take, drop, map, eqb}
+use mathlib.Core.Bool.{beq}
+use Rattle.base.specs.Lists.{same_list}
+use Rattle.slots.specs.inner.Threads.{same_words}
+use Rattle.slots.specs.inner.Words.{is_set, thread_of}
+use Rattle.slots.proofs.Comparing.{part-same, and-next, and-stop, in_order}
+use borrow.Author.Tests.{eq-eqb, ne_eqb}
 use Rattle.slots.proofs.same_at.Goals as goal
+use Rattle.slots.proofs.same_at.Goals.{then-part-c, else-part-c, then-eq, else-eq, then-eq-2, else-eq-2}
 
-pub returns-then-part-c : goal.returns-then-part-c
-returns-then-part-c c =
-    differs-state c.args.part.now c.args.c c.if-part-c.true
+pub returns-then-eq-3 : goal.returns-then-eq-3
+unfolding same_words thread_of
+returns-then-eq-3 c =
+    let ws = c.args.part.now in
+    let d = c.args.c.now in
+    let state : Bool = eqb (get_or ws 0 0) d.state in
+    let counters : Bool = same_list eqb (take 16 (drop 17 ws)) d.counters in
+    let values : Bool = same_list eqb (take 8 (drop 9 ws)) d.values in
+    let held : Bool = same_list beq (map is_set (take 8 (drop 1 ws))) d.held in
+    let tallies : Bool = same_list eqb (take 12 (drop 33 ws)) d.tallies in
+    let one : c.if-part-c.value ≡ (state && counters) = elim c.if-part-c.branch [
+      | then-part-c w ↦ and-next _ state counters (eq-eqb _ _ w.if-part-c.true) (w.value-is ∙ part-same eqb _ _ d.counters _ w.eq.ensures w.words_at.ensures)
+      | else-part-c w ↦ and-stop _ state counters (ne_eqb _ _ w.if-part-c.false) (w.value-is ∙ ne_eqb _ _ w.if-part-c.false)
+    ] in
+    let two : c.if-eq.value ≡ ((state && counters) && values) = elim c.if-eq.branch [
+      | then-eq w ↦ and-next _ (state && counters) values (sym one ∙ w.if-eq.true)
+          (w.value-is ∙ part-same eqb _ _ d.values _ w.eq-then-eq.ensures w.words_at-then-eq.ensures)
+      | else-eq w ↦ and-stop _ (state && counters) values (sym one ∙ w.if-eq.false) (w.value-is ∙ w.if-eq.false)
+    ] in
+    let three : c.if-eq-2.value ≡ (((state && counters) && values) && held) = elim c.if-eq-2.branch [
+      | then-eq-2 w ↦ and-next _ ((state && counters) && values) held (sym two ∙ w.if-eq-2.true)
+          (w.value-is ∙ part-same beq _ _ d.held _ w.eq-then-eq-2.ensures w.held_in.ensures)
+      | else-eq-2 w ↦ and-stop _ ((state && counters) && values) held (sym two ∙ w.if-eq-2.false) (w.value-is ∙ w.if-eq-2.false)
+    ] in
+    and-next _ (((state && counters) && values) && held) tallies (sym three ∙ c.if-eq-3.true)
+    (part-same eqb _ _ d.tallies _ c.eq-then-eq-3.ensures c.words_at-then-eq-3.ensures)
+    ∙ in_order state held values counters tallies
 
-pub same_words-requires : goal.same_words-requires
-same_words-requires c =
-    let a = c.args in
-    let h : length a.c.counters ≡ 16 = search rules in
-    h ∙ sym (part_length 17 16 a.part.now (omega arith))
-
-pub returns-then-not-same_words : goal.returns-then-not-same_words
-returns-then-not-same_words c =
-    let a = c.args in
-    let k = c.same_words in
-    differs-counters a.part.now a.c c.if-part-c.false (sym k.ensures ∙ c.if-not-same_words.true)
-
-pub same_words-requires-2 : goal.same_words-requires-2
-same_words-requires-2 c =
-    let a = c.args in
-    let h : length a.c.values ≡ 8 = search rules in
-    h ∙ sym (part_length 9 8 a.part.now (omega arith))
-
-pub returns-then-not-same_words-2 : goal.returns-then-not-same_words-2
-returns-then-not-same_words-2 c =
-    let a = c.args in
-    let k = c.same_words in
-    let v = c.same_words-2 in
-    differs-values a.part.now a.c c.if-part-c.false (sym k.ensures ∙ c.if-not-same_words.false)
-    (sym v.ensures ∙ c.if-not-same_words-2.true)
-
-pub returns-then-not-same_flags : goal.returns-then-not-same_flags
-returns-then-not-same_flags c =
-    let a = c.args in
-    let k = c.same_words in
-    let v = c.same_words-2 in
-    let h = c.same_flags in
-    differs-held a.part.now a.c c.if-part-c.false (sym k.ensures ∙ c.if-not-same_words.false)
-    (sym v.ensures ∙ c.if-not-same_words-2.false) (sym h.ensures ∙ c.if-not-same_flags.true)
-
-pub same_words-requires-3 : goal.same_words-requires-3
-same_words-requires-3 c =
-    let a = c.args in
-    let h : length a.c.tallies ≡ 12 = search rules in
-    h ∙ sym (part_length 33 12 a.part.now (omega arith))
-
-pub returns : goal.returns
-returns c =
-    let a = c.args in
-    let k = c.same_words in
-    let v = c.same_words-2 in
-    let h = c.same_flags in
-    let t = c.same_words-3 in
-    by-tallies a.part.now a.c c.if-part-c.false (sym k.ensures ∙ c.if-not-same_words.false)
-    (sym v.ensures ∙ c.if-not-same_words-2.false) (sym h.ensures ∙ c.if-not-same_flags.false) t.result t.ensures
+pub returns-else-eq-3 : goal.returns-else-eq-3
+unfolding same_words thread_of
+returns-else-eq-3 c =
+    let ws = c.args.part.now in
+    let d = c.args.c.now in
+    let state : Bool = eqb (get_or ws 0 0) d.state in
+    let counters : Bool = same_list eqb (take 16 (drop 17 ws)) d.counters in
+    let values : Bool = same_list eqb (take 8 (drop 9 ws)) d.values in
+    let held : Bool = same_list beq (map is_set (take 8 (drop 1 ws))) d.held in
+    let tallies : Bool = same_list eqb (take 12 (drop 33 ws)) d.tallies in
+    let one : c.if-part-c.value ≡ (state && counters) = elim c.if-part-c.branch [
+      | then-part-c w ↦ and-next _ state counters (eq-eqb _ _ w.if-part-c.true) (w.value-is ∙ part-same eqb _ _ d.counters _ w.eq.ensures w.words_at.ensures)
+      | else-part-c w ↦ and-stop _ state counters (ne_eqb _ _ w.if-part-c.false) (w.value-is ∙ ne_eqb _ _ w.if-part-c.false)
+    ] in
+    let two : c.if-eq.value ≡ ((state && counters) && values) = elim c.if-eq.branch [
+      | then-eq w ↦ and-next _ (state && counters) values (sym one ∙ w.if-eq.true)
+          (w.value-is ∙ part-same eqb _ _ d.values _ w.eq-then-eq.ensures w.words_at-then-eq.ensures)
+      | else-eq w ↦ and-stop _ (state && counters) values (sym one ∙ w.if-eq.false) (w.value-is ∙ w.if-eq.false)
+    ] in
+    let three : c.if-eq-2.value ≡ (((state && counters) && values) && held) = elim c.if-eq-2.branch [
+      | then-eq-2 w ↦ and-next _ ((state && counters) && values) held (sym two ∙ w.if-eq-2.true)
+          (w.value-is ∙ part-same beq _ _ d.held _ w.eq-then-eq-2.ensures w.held_in.ensures)
+      | else-eq-2 w ↦ and-stop _ ((state && counters) && values) held (sym two ∙ w.if-eq-2.false) (w.value-is ∙ w.if-eq-2.false)
+    ] in
+    and-stop _ (((state && counters) && values) && held) tallies (sym three ∙ c.if-eq-3.false) c.if-eq-3.false
+    ∙ in_order state held values counters tallies

@@ -1,18 +1,19 @@
 -- `slots::store` meets its contract: each field stands behind those before it.
-use Rattle.slots.proofs.Words.{stored}
+use Rattle.std.proofs.Common.{◌∙◌, refl, rules, of_calls}
+use mathlib.Core.Bool.{false}
+use Rattle.base.specs.Mask.{bit}
+use Rattle.slots.proofs.Parts.{mid-put}
+use Rattle.slots.proofs.Words.{stored, mapped}
 use Rattle.slots.specs.inner.Threads.{Sized}
-use borrow.Author.Rules.{rules}
 use Rattle.slots.proofs.store.Goals as goal
 
 pub returns : goal.returns
 returns c =
-    let s : Sized c.args.t =
-    record { held_8 = search rules; values_8 = search rules; counters_16 = search rules; tallies_12 = search rules; trail_32 = search rules } in
-    let f = c.flag_words-flags in
-    let w₁ = c.write in
-    let w₂ = c.write-2 in
-    let w₃ = c.write-3 in
-    let w₄ = c.write-4 in
-    let w₅ = c.write-5 in
-    stored c.args.part.now c.args.t s f.result w₁.new.part w₂.new.part w₃.new.part w₄.new.part w₅.new.part c.requires f.ensures
-    w₁.ensures w₂.ensures w₃.ensures w₄.ensures w₅.ensures
+    let t = c.args.t in
+    let s : Sized t = search rules in
+    let m = c.map in
+    let f = mapped bit t.config.held m.result false 0 (search rules) (λ i h. let z = (m.ensures.items.at i false 0 (search rules)).2.met in search of_calls) in
+    stored c.args.part.now t s c.copy_from_slice.new.self _ _ _ _ _ c.requires (c.copy_from_slice.ensures.after ∙ f)
+    (mid-put 1 8 _ _ _ refl (search rules)) (mid-put 9 8 _ _ _ c.copy_from_slice-2.ensures.after s.values_8)
+    (mid-put 17 16 _ _ _ c.copy_from_slice-3.ensures.after s.counters_16) (mid-put 33 12 _ _ _ c.copy_from_slice-4.ensures.after s.tallies_12)
+    (mid-put 46 32 _ _ _ c.copy_from_slice-5.ensures.after s.trail_32)

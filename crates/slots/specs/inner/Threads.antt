@@ -2,13 +2,13 @@
 use Prim.Native.Nat.{ℕ, zero, suc, ◌+◌, ◌*◌, ◌/◌, ◌%◌, Ordering}
 use Rattle.std.specs.Prelude.{◌≡◌, Bool, true, false, ◌&&◌, List, [], ◌∷◌, ◌++◌, map, length, take, set, replicate, eqb}
 use Rattle.std.specs.Bool.{beq}
+use Rattle.std.specs.declared.cmp.Ordering.{Ordering as Answer}
+use Rattle.std.specs.declared.cmp.Ordering.TheVariants.{Less, Equal, Greater}
 use Rattle.base.specs.Lists.{same_list}
 use Rattle.runs.specs.Run.{Entry, Trail}
 use Rattle.runs.specs.inner.Order.{order, lex, then}
 use Rattle.machine_code.specs.declared.Configuration.{Configuration}
 use Rattle.slots.specs.declared.Thread.{Thread}
-use Rattle.slots.specs.declared.Side.{Side}
-use Rattle.slots.specs.declared.Side.TheVariants.{Lesser, Equal, Greater}
 
 -- "The start configuration holds nothing, with counters 0": the thread before the first step
 abbrev pub origin_thread : Thread
@@ -84,16 +84,16 @@ pub record Extended (t : Thread) (event number : ℕ) (r : Thread) : Type 0 wher
   pub fields : r ≡ with_step t event number
   pub trail : trail_of r ≡ trail_of t ++ (record { event = event; step = number } ∷ [])
 
--- what a trail word is compared by: its step number, or its event
-abbrev pub key : Bool → ℕ → ℕ
-key true w = w % 8
-key false w = w / 8
+-- a key of words computes a function
+abbrev pub Computes : (ℕ → ℕ → Type 0) → (ℕ → ℕ) → Type 0
+Computes gives k = (x y : ℕ) → gives x y → y ≡ k x
 
-abbrev pub side_of : Ordering → Side
-side_of Ordering.lt = Lesser
+-- a comparison as the code says it
+abbrev pub side_of : Ordering → Answer
+side_of Ordering.lt = Less
 side_of Ordering.eq = Equal
 side_of Ordering.gt = Greater
 
 -- words of trails compared: first by their events, then by their step numbers
 unfoldable pub word_order : List ℕ → List ℕ → Ordering
-word_order a b = then (lex (map (key false) a) (map (key false) b)) (lex (map (key true) a) (map (key true) b))
+word_order a b = then (lex (map (λ w. w / 8) a) (map (λ w. w / 8) b)) (lex (map (λ w. w % 8) a) (map (λ w. w % 8) b))

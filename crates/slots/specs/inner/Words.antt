@@ -1,5 +1,6 @@
 -- 'A seat counts 192 lent work words of 32 bits': the words of a thread, and the threads of the slots (the paper's seats).
-use Rattle.std.specs.Prelude.{ℕ, zero, suc, ◌+◌, ◌*◌, ◌≤◌, ◌<◌, ◌≡◌, Bool, true, false, not, List, [], ◌∷◌, ◌++◌, map, length, take, drop, get_or, eqb}
+use Rattle.std.specs.Prelude.{ℕ, zero, suc, ◌+◌, ◌*◌, ◌≤◌, ◌<◌, ◌≡◌, Bool, true, false, not, List, [], ◌∷◌, ◌++◌, map, length, take, drop, get_or, eqb, Option, Some, None}
+use Rattle.base.specs.Lists.{some_below}
 use Rattle.base.specs.Mask.{bit}
 use Rattle.machine_code.specs.declared.Configuration.{Configuration}
 use Rattle.slots.specs.declared.Thread.{Thread}
@@ -50,12 +51,21 @@ threads_from half k (suc n) l = thread_at l (place half k) ∷ threads_from half
 abbrev pub list : ℕ → ℕ → List ℕ → List Thread
 list half count l = threads_from half 0 count l
 
--- the first thread from one on whose words hold the configuration's; the count where there is none
-pub record FoundFrom (half count from : ℕ) (c : Configuration) (l : List ℕ) (r : ℕ) : Type 0 where
+-- none of the threads from one on before another has the configuration's words
+abbrev pub Differ : ℕ → ℕ → ℕ → Configuration → List ℕ → Type 0
+Differ half from to c l = (i : ℕ) → from ≤ i → i < to → same_words (thread_at l (place half i)).config c ≡ false
+
+-- thread r is the first from one on that has them
+pub record FoundAt (half count from : ℕ) (c : Configuration) (l : List ℕ) (r : ℕ) : Type 0 where
   pub least : from ≤ r
-  pub most : r ≤ count
-  pub missed : (i : ℕ) → from ≤ i → i < r → same_words (thread_at l (place half i)).config c ≡ false
-  pub here : r < count → same_words (thread_at l (place half r)).config c ≡ true
+  pub inside : r < count
+  pub missed : Differ half from r c l
+  pub here : same_words (thread_at l (place half r)).config c ≡ true
+
+-- the first thread from one on whose words hold the configuration's
+abbrev pub FoundFrom : ℕ → ℕ → ℕ → Configuration → List ℕ → Option ℕ → Type 0
+FoundFrom half count from c l (Some r) = FoundAt half count from c l r
+FoundFrom half count from c l None = Differ half from count c l
 
 -- What inserting into the list of one half leaves of the rest. The answer r is the list's length then. The threads of the other half
 -- stay, whichever slots they are in.
@@ -71,11 +81,17 @@ pub record Inserted (p : Thread → Bool) (half count slots : ℕ) (b : Thread) 
   pub listed : r ≤ slots → list half r after ≡ insert_thread p b (list half count before)
   pub full : slots < r → after ≡ before
 
+-- the list's length that an insertion answers, as a number: one more than the slots where there was no room
+abbrev pub length_in : ℕ → Option ℕ → ℕ
+length_in slots (Some r) = r
+length_in slots None = slots + 1
+
 -- thread b was inserted where the first thread stands that passes a test, by whichever test that is
-abbrev pub InsertedAt : ℕ → ℕ → ℕ → ℕ → Thread → List ℕ → List ℕ → ℕ → Type 0
-InsertedAt half count slots at b before after r =
-    Around half count before after r
-    × ((p : Thread → Bool) → at ≡ position p (list half count before) → Inserted p half count slots b before after r)
+pub record InsertedAt (half count slots : ℕ) (at : Option ℕ) (b : Thread) (before after : List ℕ) (r : Option ℕ) : Type 0 where
+  pub within : r ≡ some_below (slots + 1) (length_in slots r)
+  pub around : Around half count before after (length_in slots r)
+  pub inserted :
+      (p : Thread → Bool) → at ≡ some_below count (position p (list half count before)) → Inserted p half count slots b before after (length_in slots r)
 
 -- the thread of a slot in one half was kept: it stands at the end of the list of that half, which ends before it; the threads behind it and
 -- those of the other half stay
