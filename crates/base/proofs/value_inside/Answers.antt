@@ -1,8 +1,8 @@
--- `base::value_inside` meets its contract: byte by byte.
+-- `base::value_inside` meets its contract: the four bytes, the highest first.
+use Rattle.std.proofs.Common.{arith}
 use Rattle.base.specs.Value.{value_at}
-use borrow.Author.Rules.{rules}
 use Rattle.base.proofs.value_inside.Goals as goal
 
 pub returns : goal.returns
 unfolding value_at
-returns c = search rules
+returns c = omega (arith, c.from_be_bytes.ensures)
