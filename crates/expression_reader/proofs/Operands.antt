@@ -21,8 +21,8 @@ use Rattle.formula.specs.Formula.{Leaf, CONST, VAR, COUNT, SUM, LENGTH, DIFFEREN
 use Rattle.formula.specs.Encode.{encode_expr}
 use Rattle.formula.specs.Read.{ExprOpcode, const-op, var-op, count-op, list_op, unary, binary, ternary, foreign_op, expr_opcode, is_list, ExprNext}
 use Rattle.formula.specs.Read.{expression, failed, over_of, and_then, expr_of, expr_with, read_expr}
-use Rattle.expression_reader.specs.inner.Prefix.{takes, operands_of, over, takes_at, ExprEnd, whole, broken, end_of, front, joined, const_head, var_head}
-use Rattle.expression_reader.specs.inner.Prefix.{count_head, list_head, head_of, shape}
+use Rattle.expression_reader.specs.inner.Prefix.{takes, operands_of, over, takes_at, End, ExprEnd, whole, broken, end_of, front, joined}
+use Rattle.expression_reader.specs.inner.Prefix.{head_of, shape}
 use Rattle.expression_reader.specs.inner.Places.{leaves_noted, noted, state_key, var_noted}
 
 -- a list is not noted; the leaves of an operator are those of its operands, one after the other
@@ -163,8 +163,8 @@ read-used (suc d) (suc left) at (b ∷ ops) = expr-used (read_expr d) (read-used
 abbrev pub Reader : Type 0
 Reader = ℕ → ℕ → List ℕ → List ℕ → ExprEnd
 
--- what follows an operand; its refusal is handed on
-abbrev pub after : (Prefix → List ℕ → ExprEnd) → ExprEnd → ExprEnd
+-- what follows a command or an operand; its refusal is handed on
+abbrev pub after : {A : Type 0} → (A → List ℕ → ExprEnd) → End A → ExprEnd
 after k (whole q t) = k q t
 after k (broken r) = broken r
 
@@ -172,6 +172,10 @@ after k (broken r) = broken r
 pub complete : Reader → ℕ → ℕ → List ℕ → Prefix → List ℕ → ExprEnd
 complete op zero at bs p places = whole p places
 complete op (suc n) at bs p places = after (λ q t. complete op n at bs (joined p q) t) (op p.left (at + p.used) (drop p.used bs) places)
+
+-- reading a command of so many bytes and its n operands, where `left` commands are still allowed
+abbrev pub headed : Reader → ℕ → ℕ → ℕ → List ℕ → End ℕ → ExprEnd
+headed op n left at bs x = after (λ u t. complete op n at bs (front u left) t) x
 
 ltb-suc' : (m n : ℕ) (b : Bool) → ltb m n ≡ b → ltb (suc m) (suc n) ≡ b
 ltb-suc' m n true h = lt-ltb (suc m) (suc n) (omega (arith, ltb-true m n h))
@@ -250,15 +254,15 @@ module _ (s : ℕ) (own : List Bool) where
 
     const-is : (at left b : ℕ) (ops places : List ℕ) (t : Bool)
         → shape s own at places (cond t (failed (CutShort InFormula at)) (expression (LEAF (CONST (value_at ops 0))) 5 left))
-        ≡ after (complete (view op) 0 at (b ∷ ops)) (end_of (cond t (Err (CutShort InFormula at)) (Ok (front 5 left))) places)
+        ≡ headed (view op) 0 left at (b ∷ ops) (end_of (cond t (Err (CutShort InFormula at)) (Ok 5)) places)
     unfolding leaves_noted complete
     const-is at left b ops places true = refl
     const-is at left b ops places false = refl
 
     var-is : (at left b v : ℕ) (ops places : List ℕ) (t exists : Bool)
         → shape s own at places (cond t (failed (CutShort InFormula at)) (cond exists (expression (LEAF (VAR v)) 2 left) (failed (Value InFormula at))))
-        ≡ after (complete (view op) 0 at (b ∷ ops))
-        (cond t (broken (CutShort InFormula at)) (cond exists (whole (front 2 left) (var_noted s own v at places)) (broken (Value InFormula at))))
+        ≡ headed (view op) 0 left at (b ∷ ops)
+        (cond t (broken (CutShort InFormula at)) (cond exists (whole 2 (var_noted s own v at places)) (broken (Value InFormula at))))
     unfolding leaves_noted complete
     var-is at left b v ops places true exists = refl
     var-is at left b v ops places false true = refl
@@ -266,22 +270,22 @@ module _ (s : ℕ) (own : List Bool) where
 
     count-is : (at left b v : ℕ) (ops places : List ℕ) (t : Bool)
         → shape s own at places (cond t (failed (CutShort InFormula at)) (expression (LEAF (COUNT v)) 2 left))
-        ≡ after (complete (view op) 0 at (b ∷ ops)) (cond t (broken (CutShort InFormula at)) (whole (front 2 left) (noted places (state_key v) at)))
+        ≡ headed (view op) 0 left at (b ∷ ops) (cond t (broken (CutShort InFormula at)) (whole 2 (noted places (state_key v) at)))
     unfolding leaves_noted complete
     count-is at left b v ops places true = refl
     count-is at left b v ops places false = refl
 
     list-is : (mk : ℕ → Leaf) → Unnoted mk → (at left b v : ℕ) (ops places : List ℕ) (t exists : Bool)
         → shape s own at places (cond t (failed (CutShort InFormula at)) (cond exists (expression (LEAF (mk v)) 2 left) (failed (Value InFormula at))))
-        ≡ after (complete (view op) 0 at (b ∷ ops))
-        (end_of (cond t (Err (CutShort InFormula at)) (cond exists (Ok (front 2 left)) (Err (Value InFormula at)))) places)
+        ≡ headed (view op) 0 left at (b ∷ ops)
+        (end_of (cond t (Err (CutShort InFormula at)) (cond exists (Ok 2) (Err (Value InFormula at)))) places)
     unfolding complete
     list-is mk g at left b v ops places true exists = refl
     list-is mk g at left b v ops places false true = rw (g s own at v places)
     list-is mk g at left b v ops places false false = refl
 
     head-is : (left at b : ℕ) (ops places : List ℕ) (o : ExprOpcode) → Ordered o
-        → shape s own at places (expr_of op left at ops o) ≡ after (complete (view op) (operands_of (takes o)) at (b ∷ ops)) (head_of s own left at (b ∷ ops) places (takes o))
+        → shape s own at places (expr_of op left at ops o) ≡ headed (view op) (operands_of (takes o)) left at (b ∷ ops) (head_of s own at (b ∷ ops) places (takes o))
     unfolding complete
     head-is left at b ops places const-op g = rw (ltb-suc (length ops) 4) (const-is at left b ops places (ltb (length ops) 4))
     head-is left at b ops places var-op g =
@@ -310,7 +314,7 @@ module _ (s : ℕ) (own : List Bool) where
 
   -- an expression by what its command takes
   abbrev pub taken-by : ℕ → ℕ → ℕ → List ℕ → List ℕ → Result Takes Refusal → ExprEnd
-  taken-by depth left at bs places (Ok t) = after (complete (deeper depth) (operands_of t) at bs) (head_of s own (left - 1) at bs places t)
+  taken-by depth left at bs places (Ok t) = headed (deeper depth) (operands_of t) (left - 1) at bs (head_of s own at bs places t)
   taken-by depth left at bs places (Err r) = broken r
 
   -- an expression is its command and the operands that it takes
@@ -331,11 +335,11 @@ module _ (s : ℕ) (own : List Bool) where
       → taken-by depth left at bs places x ≡ shape s own at places (read_expr depth left at bs)
   from-takes depth left at bs places x e = ap (taken-by depth left at bs places) e ∙ sym (read_is depth left at bs places)
 
-  pub from-head : (depth left at : ℕ) (bs places : List ℕ) (t : Takes) (x : ExprEnd) → Ok t ≡ takes_at depth left at bs
-      → x ≡ head_of s own (left - 1) at bs places t
-      → after (complete (deeper depth) (operands_of t) at bs) x ≡ shape s own at places (read_expr depth left at bs)
+  pub from-head : (depth left at : ℕ) (bs places : List ℕ) (t : Takes) (x : End ℕ) → Ok t ≡ takes_at depth left at bs
+      → x ≡ head_of s own at bs places t
+      → headed (deeper depth) (operands_of t) (left - 1) at bs x ≡ shape s own at places (read_expr depth left at bs)
   from-head depth left at bs places t x e h =
-      ap (after (complete (deeper depth) (operands_of t) at bs)) h ∙ from-takes depth left at bs places (Ok t) e
+      ap (headed (deeper depth) (operands_of t) (left - 1) at bs) h ∙ from-takes depth left at bs places (Ok t) e
 
 -- one operand more
 pub complete-on : (op : Reader) (n at : ℕ) (bs : List ℕ) (p : Prefix) (places : List ℕ) (x : ExprEnd) → 0 < n

@@ -158,43 +158,38 @@ fn over(part: Part<'_>, t: Takes) -> Refusal
     }
 }
 
-// A CONST, or its refusal.
-fn const_head(part: Part<'_>, left: usize) -> Result<Prefix, Refusal>
-    ensures is { result ≡ const_head left part.entry.at part.entry.bytes.now }
-    ensures inside { IfOk result (λ p. p.used ≤ length part.entry.bytes.now) }
+// The bytes of a CONST, or its refusal.
+fn const_head(part: Part<'_>) -> Result<usize, Refusal>
+    ensures is { result ≡ const_head part.entry.at part.entry.bytes.now }
+    ensures inside { IfOk result (λ used. used ≤ length part.entry.bytes.now) }
 {
     if part.bytes.len() < 5 {
         return Err(part.cut_short());
     }
-    Ok(Prefix { used: 5, left })
+    Ok(5)
 }
 
-// A VAR, or its refusal.
-fn var_head(
-    part: Part<'_>,
-    left: usize,
-    scope: Scope,
-    places: &mut [usize; 145],
-) -> Result<Prefix, Refusal>
-    ensures is { end_of result places.new ≡ var_head scope.state scope.own left part.entry.at part.entry.bytes.now places.old }
-    ensures inside { IfOk result (λ p. p.used ≤ length part.entry.bytes.now) }
+// The bytes of a VAR, or its refusal.
+fn var_head(part: Part<'_>, scope: Scope, places: &mut [usize; 145]) -> Result<usize, Refusal>
+    ensures is { end_of result places.new ≡ var_head scope.state scope.own part.entry.at part.entry.bytes.now places.old }
+    ensures inside { IfOk result (λ used. used ≤ length part.entry.bytes.now) }
 {
     let v = usize::from(part.operand()?);
     if 8 <= v {
         return Err(part.absent());
     }
     note_var(places, scope, v, part.at);
-    Ok(Prefix { used: 2, left })
+    Ok(2)
 }
 
-// A COUNT, or its refusal.
-fn count_head(part: Part<'_>, left: usize, places: &mut [usize; 145]) -> Result<Prefix, Refusal>
-    ensures is { end_of result places.new ≡ count_head left part.entry.at part.entry.bytes.now places.old }
-    ensures inside { IfOk result (λ p. p.used ≤ length part.entry.bytes.now) }
+// The bytes of a COUNT, or its refusal.
+fn count_head(part: Part<'_>, places: &mut [usize; 145]) -> Result<usize, Refusal>
+    ensures is { end_of result places.new ≡ count_head part.entry.at part.entry.bytes.now places.old }
+    ensures inside { IfOk result (λ used. used ≤ length part.entry.bytes.now) }
 {
     let key = state_key(usize::from(part.operand()?));
     note(places, key, part.at);
-    Ok(Prefix { used: 2, left })
+    Ok(2)
 }
 
 // Whether a byte names a list.
@@ -204,35 +199,34 @@ pub fn is_list(b: u8) -> bool
     (8..12).contains(&b)
 }
 
-// A SUM, LENGTH or DIFFERENT, or its refusal.
-fn list_head(part: Part<'_>, left: usize) -> Result<Prefix, Refusal>
-    ensures is { result ≡ list_head left part.entry.at part.entry.bytes.now }
-    ensures inside { IfOk result (λ p. p.used ≤ length part.entry.bytes.now) }
+// The bytes of a SUM, LENGTH or DIFFERENT, or its refusal.
+fn list_head(part: Part<'_>) -> Result<usize, Refusal>
+    ensures is { result ≡ list_head part.entry.at part.entry.bytes.now }
+    ensures inside { IfOk result (λ used. used ≤ length part.entry.bytes.now) }
 {
     if !is_list(part.operand()?) {
         return Err(part.absent());
     }
-    Ok(Prefix { used: 2, left })
+    Ok(2)
 }
 
-// The expression command of this sort that the part begins with, or its refusal.
+// The bytes of the expression command of this sort that the part begins with, without its operands, or its refusal.
 fn head_of(
     part: Part<'_>,
     t: Takes,
-    left: usize,
     scope: Scope,
     places: &mut [usize; 145],
-) -> Result<Prefix, Refusal>
+) -> Result<usize, Refusal>
     requires { 0 < length part.bytes.now }
-    ensures is { end_of result places.new ≡ head_of scope.state scope.own left part.entry.at part.entry.bytes.now places.old t }
-    ensures inside { IfOk result (λ p. p.used ≤ length part.entry.bytes.now) }
+    ensures is { end_of result places.new ≡ head_of scope.state scope.own part.entry.at part.entry.bytes.now places.old t }
+    ensures inside { IfOk result (λ used. used ≤ length part.entry.bytes.now) }
 {
     match t {
-        Takes::Value => const_head(part, left),
-        Takes::Variable => var_head(part, left, scope, places),
-        Takes::State => count_head(part, left, places),
-        Takes::List => list_head(part, left),
-        Takes::Operands(_) => Ok(Prefix { used: 1, left }),
+        Takes::Value => const_head(part),
+        Takes::Variable => var_head(part, scope, places),
+        Takes::State => count_head(part, places),
+        Takes::List => list_head(part),
+        Takes::Operands(_) => Ok(1),
         Takes::Foreign => Err(part.foreign()),
     }
 }
@@ -265,7 +259,11 @@ pub fn read_expr(
     ensures inside { IfOk result (λ p. p.used ≤ length part.entry.bytes.now) }
 {
     let takes = takes_at(part, depth, left)?;
-    let mut whole = head_of(part, takes, left - 1, scope, places)?;
+    let used = head_of(part, takes, scope, places)?;
+    let mut whole = Prefix {
+        used,
+        left: left - 1,
+    };
     for _ in 0..takes.operands() {
         let operand = read_expr(
             part.behind(whole.used),

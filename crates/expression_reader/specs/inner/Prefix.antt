@@ -46,14 +46,18 @@ takes_at depth left at bs =
     let t = takes (expr_opcode (get_or bs 0 0)) in
     cond (eqb (length bs) 0) (Err (CutShort InFormula at)) (cond (eqb depth 0) (Err (over t at)) (cond (eqb left 0) (Err (over t at)) (Ok t)))
 
--- an expression's front with the places after it, or the refusal
-pub data ExprEnd : Type 0 where
-  whole : Prefix → List ℕ → ExprEnd
-  broken : Refusal → ExprEnd
+-- what was read with the places after it, or the refusal
+pub data End (A : Type 0) : Type 0 where
+  whole : A → List ℕ → End A
+  broken : Refusal → End A
+
+-- an expression's front
+abbrev pub ExprEnd : Type 0
+ExprEnd = End Prefix
 
 -- what a reading and the places after it amount to: after a refusal no place counts
-abbrev pub end_of : Result Prefix Refusal → List ℕ → ExprEnd
-end_of (Ok p) places = whole p places
+abbrev pub end_of : {A : Type 0} → Result A Refusal → List ℕ → End A
+end_of (Ok x) places = whole x places
 end_of (Err r) places = broken r
 
 -- an expression's front and its next operand
@@ -68,30 +72,29 @@ front used left = record { used = used; left = left }
 abbrev pub operand_at : ℕ → List ℕ → Result ℕ Refusal
 operand_at at bs = cond (ltb (length bs) 2) (Err (CutShort InFormula at)) (Ok (get_or bs 1 0))
 
--- a CONST, VAR, COUNT, or one of a list, at `at`, where bs begins
-abbrev pub const_head : ℕ → ℕ → List ℕ → Result Prefix Refusal
-const_head left at bs = cond (ltb (length bs) 5) (Err (CutShort InFormula at)) (Ok (front 5 left))
+-- the bytes of a CONST, VAR, COUNT, or one of a list, at `at`, where bs begins
+abbrev pub const_head : ℕ → List ℕ → Result ℕ Refusal
+const_head at bs = cond (ltb (length bs) 5) (Err (CutShort InFormula at)) (Ok 5)
 
-abbrev pub var_head : ℕ → List Bool → ℕ → ℕ → List ℕ → List ℕ → ExprEnd
-var_head s own left at bs places =
+abbrev pub var_head : ℕ → List Bool → ℕ → List ℕ → List ℕ → End ℕ
+var_head s own at bs places =
     cond (ltb (length bs) 2) (broken (CutShort InFormula at))
-    (cond (ltb (get_or bs 1 0) 8) (whole (front 2 left) (var_noted s own (get_or bs 1 0) at places)) (broken (Value InFormula at)))
+    (cond (ltb (get_or bs 1 0) 8) (whole 2 (var_noted s own (get_or bs 1 0) at places)) (broken (Value InFormula at)))
 
-abbrev pub count_head : ℕ → ℕ → List ℕ → List ℕ → ExprEnd
-count_head left at bs places = cond (ltb (length bs) 2) (broken (CutShort InFormula at)) (whole (front 2 left) (noted places (state_key (get_or bs 1 0)) at))
+abbrev pub count_head : ℕ → List ℕ → List ℕ → End ℕ
+count_head at bs places = cond (ltb (length bs) 2) (broken (CutShort InFormula at)) (whole 2 (noted places (state_key (get_or bs 1 0)) at))
 
-abbrev pub list_head : ℕ → ℕ → List ℕ → Result Prefix Refusal
-list_head left at bs =
-    cond (ltb (length bs) 2) (Err (CutShort InFormula at)) (cond (is_list (get_or bs 1 0)) (Ok (front 2 left)) (Err (Value InFormula at)))
+abbrev pub list_head : ℕ → List ℕ → Result ℕ Refusal
+list_head at bs = cond (ltb (length bs) 2) (Err (CutShort InFormula at)) (cond (is_list (get_or bs 1 0)) (Ok 2) (Err (Value InFormula at)))
 
--- an expression command at `at`, where bs begins, in a step of state s that binds the variables marked
-abbrev pub head_of : ℕ → List Bool → ℕ → ℕ → List ℕ → List ℕ → Takes → ExprEnd
-head_of s own left at bs places TakesValue = end_of (const_head left at bs) places
-head_of s own left at bs places TakesVariable = var_head s own left at bs places
-head_of s own left at bs places TakesState = count_head left at bs places
-head_of s own left at bs places TakesList = end_of (list_head left at bs) places
-head_of s own left at bs places (Operands n) = whole (front 1 left) places
-head_of s own left at bs places TakesNothing = broken (Foreign InFormula at)
+-- those of an expression command at `at`, where bs begins, in a step of state s that binds the variables marked
+abbrev pub head_of : ℕ → List Bool → ℕ → List ℕ → List ℕ → Takes → End ℕ
+head_of s own at bs places TakesValue = end_of (const_head at bs) places
+head_of s own at bs places TakesVariable = var_head s own at bs places
+head_of s own at bs places TakesState = count_head at bs places
+head_of s own at bs places TakesList = end_of (list_head at bs) places
+head_of s own at bs places (Operands n) = whole 1 places
+head_of s own at bs places TakesNothing = broken (Foreign InFormula at)
 
 -- what the reader keeps of an expression read at `at`
 abbrev pub shape : ℕ → List Bool → ℕ → List ℕ → ExprNext → ExprEnd
