@@ -4,13 +4,13 @@ use mathlib.Core.Path.{◌≡◌, refl, ap, sym, ◌∙◌}
 use mathlib.Core.Bool.{Bool, true, false, cond}
 use mathlib.Core.List.{List}
 use native.Mathlib.Omega.{arith}
-use borrow.Author.Tests.{lt-ltb, le-ltb, eqb-true, eqb-false}
+use borrow.Author.Tests.{lt-ltb, le-ltb}
 use lib.ListN.{get_or, drop}
 use lib.Dec.{eqb}
 use Rattle.base.specs.Mask.{bit}
 use Rattle.machine.specs.Guard.{truth}
 use Rattle.guard_code.specs.inner.Bytes.{operands_of, applied, leaf_width, leaf_whole, Evaluated}
-use Rattle.guard_code.specs.inner.Bytes.{evaluated_third, evaluated_second, leaf_or, compound, evaluated}
+use Rattle.guard_code.specs.inner.Bytes.{evaluated_second, leaf_or, compound, evaluated}
 use Rattle.guard_code.proofs.GuardOnBytes.{whole}
 use Rattle.guard_code.specs.declared.guard.Reading.{Reading}
 use Rattle.guard_code.specs.inner.Reading.{placed}
@@ -18,15 +18,7 @@ use Rattle.guard_code.proofs.ReadingOnBytes.{operand, first_byte, first-value, b
 
 -- what holds of the three commands holds of a byte among them
 among : (P : ℕ → Type 0) (o : ℕ) → 0x29 ≤ o → o ≤ 0x2B → P 0x29 → P 0x2A → P 0x2B → P o
-among P o low high p q r = go (eqb o 0x29) refl (eqb o 0x2A) refl
-  where
-    go : (s : Bool) → eqb o 0x29 ≡ s → (t : Bool) → eqb o 0x2A ≡ t → P o
-    go true e t f = rw (eqb-true o 0x29 e) p
-    go false e true f = rw (eqb-true o 0x2A f) q
-    go false e false f =
-        let m = eqb-false o 0x29 e in
-        let n = eqb-false o 0x2A f in
-        let l : o ≡ 0x2B = omega arith in rw l r
+among P o low high p q r = grind arith
 
 -- they have operands
 pub decider-some : (o : ℕ) → 0x29 ≤ o → o ≤ 0x2B → operands_of o ≡ 0 → ⊥
@@ -43,14 +35,7 @@ second-value : (read : List ℕ → Evaluated) (part : List ℕ) (a b : Evaluate
     → (evaluated_second read part a b).value
     ≡ applied (get_or part 0 0) a.value b.value (cond (eqb (operands_of (get_or part 0 0)) 2) 0 (read (drop (1 + a.used + b.used) part)).value)
 unfolding evaluated_second
-second-value read part a b = go (eqb (operands_of (get_or part 0 0)) 2)
-  where
-    go : (t : Bool)
-        → (cond t (record { value = applied (get_or part 0 0) a.value b.value 0; used = 1 + a.used + b.used })
-        (evaluated_third part a b (read (drop (1 + a.used + b.used) part)))).value
-        ≡ applied (get_or part 0 0) a.value b.value (cond t 0 (read (drop (1 + a.used + b.used) part)).value)
-    go true = refl
-    go false = refl
+second-value read part a b = grind arith
 
 -- Such a command, with the byte o and the first operand a, where commands may nest so deep.
 module _ (depth at : ℕ) (leaf : List ℕ → ℕ) (part : List ℕ) {o : ℕ} (deep : depth ≡ 0 → ⊥) (byte : o ≡ get_or part at 0) (low : 0x29 ≤ o) (high : o ≤ 0x2B)

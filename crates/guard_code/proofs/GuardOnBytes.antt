@@ -1,13 +1,11 @@
 -- Evaluating a guard over its bytes: what each test of the code shows, and that on an expression's bytes it is the expression's value.
 use Prim.Native.Nat.{ℕ, zero, suc, ◌+◌, ◌-◌, ◌<◌, ◌≤◌}
 use mathlib.Core.Path.{◌≡◌, refl, ap, sym, ◌∙◌}
-use mathlib.Core.Bool.{Bool, true, false}
 use mathlib.Core.List.{List, [], ◌∷◌, ◌++◌, append_assoc}
 use native.Mathlib.Omega.{arith}
-use borrow.Author.Tests.{lt-ltb, le-leb, ne_eqb, ltb-true, ltb-false}
+use borrow.Author.Tests.{le-leb, ne_eqb}
 use lib.ListN.{length, get_or, take, drop, get_or-append, get_or-eq_default, length-append}
 use lib.Seq.{drop-append_seam, get_or-append-add}
-use lib.Dec.{ltb}
 use Rattle.base.specs.Lists.{pad}
 use Rattle.base.specs.Value.{bytes_of, value_at}
 use Rattle.base.proofs.Lists.{length-pad, get_d-pad}
@@ -28,20 +26,12 @@ rest l k = take (length l - k) (drop k l)
 
 -- there is a byte where one is not 0
 pub byte_inside : (f : List ℕ) (at c : ℕ) → c ≡ get_or f at 0 → 0 < c → at < length f
-byte_inside f at c e h = go (ltb at (length f)) refl
-  where
-    go : (b : Bool) → ltb at (length f) ≡ b → at < length f
-    go true q = ltb-true at (length f) q
-    go false q = let z : get_or f at 0 ≡ 0 = get_or-eq_default f 0 (ltb-false at (length f) q) in absurd (omega arith)
+byte_inside f at c e h = grind (arith, get_or-eq_default {A = ℕ})
 
 -- a command that has operands is a byte
 pub operands_inside : (f : List ℕ) (at : ℕ) → (operands_of (get_or f at 0) ≡ 0 → ⊥) → at < length f
 unfolding operands_of
-operands_inside f at h = byte_inside f at (get_or f at 0) refl (some (get_or f at 0) h)
-  where
-    some : (c : ℕ) → (operands_of c ≡ 0 → ⊥) → 0 < c
-    some zero h = absurd (h refl)
-    some (suc c) h = omega arith
+operands_inside f at h = grind (arith, get_or-eq_default {A = ℕ})
 
 -- the bytes behind a command's first operand, and behind its second
 pub behind-one : (c : ℕ) (xs ys : List ℕ) → drop (1 + length xs) (c ∷ (xs ++ ys)) ≡ ys

@@ -1,14 +1,14 @@
 -- What the code reads at an offset: each step of it gives what the definitions give.
-use Prim.Native.Nat.{ℕ, zero, suc, ◌+◌, ◌*◌, ◌-◌, ◌<◌, ◌≤◌}
+use Prim.Native.Nat.{ℕ, zero, suc, ◌+◌, ◌-◌, ◌<◌, ◌≤◌}
 use mathlib.Core.Path.{◌≡◌, refl, ap, sym, ◌∙◌}
-use mathlib.Core.Bool.{Bool, true, false, cond}
+use mathlib.Core.Bool.{Bool, true, cond}
 use mathlib.Core.List.{List, ◌++◌, append_assoc, append-nil}
 use native.Mathlib.Omega.{arith}
 use native.Mathlib.Nat.{add-zero}
-use borrow.Author.Tests.{lt-leb, ne_eqb, leb-true, leb-false, ltb-true, ltb-false}
+use borrow.Author.Tests.{ne_eqb}
 use lib.ListN.{length, get_or, take, drop, length-append, length-drop}
 use lib.Seq.{get_or-drop, drop-drop}
-use lib.Dec.{ltb, leb, eqb}
+use lib.Dec.{eqb}
 use Rattle.std.specs.Prelude.{Option, None, Some}
 use Rattle.std.proofs.lemmas.List.{take_at, drop_all}
 use Rattle.base.specs.Lists.{pad, some_below}
@@ -16,66 +16,19 @@ use Rattle.base.specs.Value.{value_at}
 use Rattle.base.proofs.Lists.{rest-drop, pad-whole}
 use Rattle.machine.specs.Guard.{truth}
 use Rattle.guard_code.specs.declared.guard.Reading.{Reading}
-use Rattle.guard_code.specs.inner.Bytes.{operands_of, applied, leaf_first, leaf_in, leaf_width, leaf_whole, Evaluated, nothing}
+use Rattle.guard_code.specs.inner.Bytes.{operands_of, applied, leaf_first, leaf_in, leaf_whole, Evaluated, nothing}
 use Rattle.guard_code.specs.inner.Bytes.{evaluated_second, evaluated_first, leaf_or, compound, evaluated, guard_at, leaf_value}
 use Rattle.guard_code.specs.inner.Reading.{placed, constant_placed, leaf_placed}
-use Rattle.guard_code.proofs.GuardOnBytes.{rest, whole}
+use Rattle.guard_code.proofs.GuardOnBytes.{rest}
 
--- a number found below 36, and none found
-below_36 : (k : ℕ) {n : ℕ} → some_below 36 k ≡ Some n → (k ≡ n) × (n < 36)
-below_36 k {n} h = go (ltb k 36) refl
-  where
-    go : (t : Bool) → ltb k 36 ≡ t → (k ≡ n) × (n < 36)
-    go true q = let l = ltb-true k 36 q in let e : ◌≡◌ {A = Option ℕ} (Some k) (Some n) = rw q at h in let g : k ≡ n = cc in (g, omega arith)
-    go false q = let e : ◌≡◌ {A = Option ℕ} None (Some n) = rw q at h in cc
-
-none_36 : (k : ℕ) → k ≤ 36 → some_below 36 k ≡ None → k ≡ 36
-none_36 k l h = go (ltb k 36) refl
-  where
-    go : (t : Bool) → ltb k 36 ≡ t → k ≡ 36
-    go true q = let e : ◌≡◌ {A = Option ℕ} (Some k) None = rw q at h in cc
-    go false q = let m = ltb-false k 36 q in omega arith
-
-chosen : (b : Bool) {x y n : ℕ} → x ≤ n → y ≤ n → cond b x y ≤ n
-chosen true p q = p
-chosen false p q = q
-
-first_below : (c : ℕ) → leaf_first c ≤ 36
-first_below c = chosen (eqb c 0x22) (omega arith) (chosen (eqb c 0x21) (omega arith) (chosen (ltb c 0x2C) (omega arith) (go (ltb 0x2E c) refl)))
-  where
-    go : (t : Bool) → ltb 0x2E c ≡ t → cond t 36 ((c - 0x2C) * 4) ≤ 36
-    go true q = omega arith
-    go false q = let h = ltb-false 0x2E c q in omega arith
-
--- a command without operands: none whole, a constant, any other
-none-placed : (at : ℕ) (leaf : List ℕ → ℕ) (l : List ℕ) → leaf_whole l ≡ 0 → None ≡ leaf_placed at leaf l
-unfolding leaf_placed
-none-placed at leaf l e = rw e
-
-some-placed : (at : ℕ) (leaf : List ℕ → ℕ) (l : List ℕ) (w : ℕ) → leaf_whole l ≡ w → (w ≡ 0 → ⊥) → {v : ℕ} → v ≡ leaf l
-    → ◌≡◌ {A = Option Reading} (Some (record { value = v; next = at + w })) (leaf_placed at leaf l)
-unfolding leaf_placed
-some-placed at leaf l w e n f = rw (e, f, ne_eqb w 0 n)
-
-cut : (l : List ℕ) → length l < leaf_width (get_or l 0 0) → leaf_whole l ≡ 0
-unfolding leaf_whole
-cut l h = rw (lt-leb _ _ h)
-
+-- a command without operands at an offset: none whole, a constant, any other
 byte-behind : (part : List ℕ) (at : ℕ) → get_or (drop at part) 0 0 ≡ get_or part at 0
 byte-behind part at = get_or-drop at part 0 0 ∙ ap (λ k. get_or part k 0) (add-zero at)
 
-short : (l : List ℕ) → length l < 2 → leaf_whole l ≡ 0
-short l h = go (eqb (get_or l 0 0) 0x20) refl (eqb (leaf_first (get_or l 0 0)) 36) refl
-  where
-    go : (t : Bool) → eqb (get_or l 0 0) 0x20 ≡ t → (s : Bool) → eqb (leaf_first (get_or l 0 0)) 36 ≡ s → leaf_whole l ≡ 0
-    go true p s q = let w : leaf_width (get_or l 0 0) ≡ 5 = rw p in cut l (omega arith)
-    go false p true q =
-        let w : leaf_width (get_or l 0 0) ≡ 0 = rw (p, q) in whole l (omega arith) ∙ w
-    go false p false q = let w : leaf_width (get_or l 0 0) ≡ 2 = rw (p, q) in cut l (omega arith)
-
 module _ (part : List ℕ) (at : ℕ) (leaves : List ℕ) where
   pub leaf-short : length part - at < 2 → None ≡ leaf_placed at (leaf_in leaves) (drop at part)
-  leaf-short h = none-placed at (leaf_in leaves) (drop at part) (short (drop at part) (omega (arith, length-drop at part)))
+  unfolding leaf_placed leaf_whole
+  leaf-short h = grind (arith, length-drop at part)
 
   module _ {o : ℕ} (e : o ≡ get_or part at 0) where
     value-behind : value_at (drop at part) 1 ≡ value_at part (at + 1)
@@ -87,57 +40,28 @@ module _ (part : List ℕ) (at : ℕ) (leaves : List ℕ) where
         rw (e, f, g, get_or-drop at part 1 0, get_or-drop at part 2 0, get_or-drop at part 3 0, get_or-drop at part 4 0)
 
     pub leaf-constant : o ≡ 0x20 → at ≤ length part → constant_placed at part ≡ leaf_placed at (leaf_in leaves) (drop at part)
-    unfolding leaf_in
-    leaf-constant h k = go (leb (at + 5) (length part)) refl
-      where
-        byte : get_or (drop at part) 0 0 ≡ 0x20
-        byte = byte-behind part at ∙ sym e ∙ h
-
-        wide : leaf_width (get_or (drop at part) 0 0) ≡ 5
-        wide = rw byte
-
-        go : (t : Bool) → leb (at + 5) (length part) ≡ t → constant_placed at part ≡ leaf_placed at (leaf_in leaves) (drop at part)
-        go false q =
-            let k = leb-false (at + 5) (length part) q in
-            rw q (none-placed at (leaf_in leaves) (drop at part) (cut (drop at part) (omega (arith, length-drop at part, wide))))
-        go true q =
-            let k = leb-true (at + 5) (length part) q in
-            rw q
-            (some-placed at (leaf_in leaves) (drop at part) 5 (whole (drop at part) (omega (arith, length-drop at part, wide)) ∙ wide) (λ z. omega arith)
-            (rw (byte, value-behind)))
+    unfolding leaf_placed leaf_whole leaf_in
+    leaf-constant h k = grind (arith, byte-behind part at, value-behind, length-drop at part)
 
     pub leaf-other : (o ≡ 0x20 → ⊥) → some_below 36 (leaf_first o) ≡ None → None ≡ leaf_placed at (leaf_in leaves) (drop at part)
-    leaf-other h f =
-        let w : leaf_width (get_or (drop at part) 0 0) ≡ 0 = rw (byte-behind part at, ← e, ne_eqb o 0x20 h, none_36 (leaf_first o) (first_below o) f) in
-        none-placed at (leaf_in leaves) (drop at part) (whole (drop at part) (omega arith) ∙ w)
+    unfolding leaf_placed leaf_whole
+    leaf-other h f = grind (arith, byte-behind part at)
 
     pub leaf-value : {n q v : ℕ} → (o ≡ 0x20 → ⊥) → some_below 36 (leaf_first o) ≡ Some n → 2 ≤ length part - at
         → q ≡ get_or part (at + 1) 0 → v ≡ get_or leaves (n + q) 0
         → ◌≡◌ {A = Option Reading} (Some (record { value = v; next = at + 2 })) (leaf_placed at (leaf_in leaves) (drop at part))
-    unfolding leaf_in
-    leaf-value {n} h f k r g =
-        let b = below_36 (leaf_first o) f in
-        let w : leaf_width (get_or (drop at part) 0 0) ≡ 2 = rw (byte-behind part at, ← e, ne_eqb o 0x20 h, b.0, ne_eqb n 36 (λ z. omega (arith, b.1))) in
-        some-placed at (leaf_in leaves) (drop at part) 2 (whole (drop at part) (omega (arith, length-drop at part)) ∙ w) (λ z. omega arith)
-        (g ∙ rw (byte-behind part at, get_or-drop at part 1 0, ← e, ne_eqb o 0x20 h, b.0, ← r))
+    unfolding leaf_placed leaf_whole leaf_in
+    leaf-value h f k r g = grind (arith, byte-behind part at, get_or-drop at part 1 0, length-drop at part)
 
 -- an operand: a command without operands, where one stands there whole, or one with operands
 module _ (at n : ℕ) (leaf : List ℕ → ℕ) (l : List ℕ) {a : Reading} where
   pub by-leaf : Some a ≡ leaf_placed at leaf l → a ≡ placed at (evaluated n leaf l)
   unfolding evaluated leaf_or leaf_placed
-  by-leaf h = go (eqb (leaf_whole l) 0) refl
-    where
-      go : (t : Bool) → eqb (leaf_whole l) 0 ≡ t → a ≡ placed at (cond t (compound n leaf l) (record { value = leaf l; used = leaf_whole l }))
-      go true q = let z : ◌≡◌ {A = Option Reading} (Some a) None = rw q at h in cc
-      go false q = let z : ◌≡◌ {A = Option Reading} (Some a) (Some (placed at (record { value = leaf l; used = leaf_whole l }))) = rw q at h in cc
+  by-leaf h = grind arith
 
   pub by-operands : None ≡ leaf_placed at leaf l → a ≡ placed at (compound n leaf l) → a ≡ placed at (evaluated n leaf l)
   unfolding evaluated leaf_or leaf_placed
-  by-operands h e = go (eqb (leaf_whole l) 0) refl
-    where
-      go : (t : Bool) → eqb (leaf_whole l) 0 ≡ t → a ≡ placed at (cond t (compound n leaf l) (record { value = leaf l; used = leaf_whole l }))
-      go true q = e
-      go false q = let z : ◌≡◌ {A = Option Reading} None (Some (placed at (record { value = leaf l; used = leaf_whole l }))) = rw q at h in cc
+  by-operands h e = grind arith
 
 -- what has a record's value and bytes is placed there
 placed-as : (at : ℕ) {e : Evaluated} (u : Evaluated) → e ≡ u → {v n : ℕ} → v ≡ u.value → n ≡ at + u.used → record { value = v; next = n } ≡ placed at e
@@ -157,22 +81,11 @@ compound-step (suc n) leaf l h = let e : suc n - 1 ≡ n = omega arith in rw e
 
 two-left : (c : ℕ) → (operands_of c ≡ 0 → ⊥) → (c ≡ 0x28 → ⊥) → (c ≡ 0x2B → ⊥) → operands_of c ≡ 2
 unfolding operands_of
-two-left c h n k = go (ltb c 0x23) (ltb c 0x2B) (rw (ne_eqb c 0x28 n, ne_eqb c 0x2B k) at h)
-  where
-    go : (s t : Bool) → (◌≡◌ {A = ℕ} (cond s 0 (cond t 2 0)) 0 → ⊥) → ◌≡◌ {A = ℕ} (cond s 0 (cond (eqb c 0x28) 1 (cond t 2 (cond (eqb c 0x2B) 3 0)))) 2
-    go true t q = absurd (q refl)
-    go false true q = rw (ne_eqb c 0x28 n)
-    go false false q = absurd (q refl)
+two-left c h n k = grind arith
 
 not-one : (c : ℕ) → (c ≡ 0x28 → ⊥) → operands_of c ≡ 1 → ⊥
 unfolding operands_of
-not-one c n = rw (ne_eqb c 0x28 n) (go (ltb c 0x23) (ltb c 0x2B) (eqb c 0x2B))
-  where
-    go : (s t u : Bool) → ◌≡◌ {A = ℕ} (cond s 0 (cond t 2 (cond u 3 0))) 1 → ⊥
-    go true t u h = omega arith
-    go false true u h = omega arith
-    go false false true h = omega arith
-    go false false false h = omega arith
+not-one c n h = grind arith
 
 -- the operand at k, of a command nested so deep
 abbrev pub operand : ℕ → (List ℕ → ℕ) → List ℕ → ℕ → Evaluated

@@ -2,9 +2,9 @@
 ghost use Rattle.std.specs.Prelude.{◌≡◌, ◌+◌, ◌^◌, ◌<◌, ◌≤◌, length};
 ghost use Rattle.guard_code.specs.inner.Bytes.{leaf_used, leaf_marked, turned, kept, judgement, paired, agreed, tripled, trend_at, falls_at};
 
+use crate::Marks;
 use crate::commands::{ADD, AND, ATMOST, DIFFERENT, EQUAL, GUARD, LESS, NOT, OR, SUB, SUM, VAR};
 use crate::guard::{leaf_used, operand_count};
-use crate::Marks;
 
 // Whether an expression is rising, or falling, and the bytes that it took.
 #[derive(Clone, Copy)]
