@@ -1,8 +1,10 @@
 -- What a call of the analysis leaves, as the text to be printed; how many events there are.
-use Prim.Native.Nat.{ℕ, ◌*◌, ◌≤◌}
+use Prim.Native.Nat.{ℕ, zero, suc, ◌+◌, ◌*◌, ◌<◌, ◌≤◌}
 use mathlib.Core.Path.{◌≡◌, refl, ap, ◌∙◌}
 use mathlib.Core.List.{List}
-use lib.ListN.{length, replicate}
+use lib.ListN.{length, replicate, get_or, take, drop}
+use Rattle.std.proofs.lemmas.List.{drop-drop}
+use Rattle.std.specs.Simd.{first_chunks}
 use native.Mathlib.Omega.{arith}
 use Rattle.base.specs.Lists.{Bytes}
 use Rattle.refusal.specs.declared.Refusal.{Refusal}
@@ -14,6 +16,14 @@ use Rattle.analysis.specs.declared.Outcome.TheVariants.{Done, Refused}
 use Rattle.analysis.specs.Analysis.{analysis}
 use Rattle.analysis.specs.Call.{Analyses}
 use Rattle.text.specs.Text.{lines, refused_line, text_of, events_in, printed}
+
+-- row n of the first k rows of 12 words
+pub row-of : (k n : ℕ) (rows d : List ℕ) → n < k → get_or (first_chunks 12 k rows) n d ≡ take 12 (drop (n * 12) rows)
+row-of zero n rows d h = absurd (omega arith)
+row-of (suc k) zero rows d h = refl
+row-of (suc k) (suc n) rows d h =
+    let e : 12 + n * 12 ≡ suc n * 12 = omega arith in
+    row-of k n (drop 12 rows) d (omega arith) ∙ ap (take 12) (drop-drop (n * 12) 12 rows ∙ ap (λ i. drop i rows) e)
 
 -- the events that the reader counts are those of the log
 pub events_are : (r : Reading) → (answer_of r).events ≡ events_in r

@@ -6,124 +6,161 @@
 
 use event_log::{Event, Latest};
 use machine_code::Configuration;
-use std::io;
+use std::{fmt, io};
 
-// A word and a line's end.
-fn say(rt: &impl Print, yes: bool) -> io::Result<()> {
-    if yes {
-        println!(rt; " yes")
-    } else {
-        println!(rt; " no")
+// "yes" or "no".
+fn word(yes: bool) -> &'static str {
+    if yes { "yes" } else { "no" }
+}
+
+// A time, or that there is none, as it is printed.
+#[derive(Clone, Copy)]
+struct Time(Option<u32>);
+
+impl fmt::Display for Time {
+    fn fmt<W: fmt::Write>(&self, f: &mut fmt::Formatter<W>) -> fmt::Result {
+        match self.0 {
+            Some(time) => write!(f, "{time}"),
+            None => write!(f, "none"),
+        }
     }
 }
 
-// A case's name and the time, or that there is none.
-fn put_case(rt: &impl Print, name: &str, there: bool, time: u32) -> io::Result<()> {
-    print!(rt; "{name}")?;
-    if there {
-        print!(rt; " {time}")
-    } else {
-        print!(rt; " none")
+// An event with a time, or none, and a code.
+fn event(time: Option<u32>, code: u32) -> Event {
+    Event {
+        values: [time.unwrap_or(0), code, 0, 0, 0, 0, 0, 0],
+        present: [
+            time.is_some(),
+            true,
+            false,
+            false,
+            false,
+            false,
+            false,
+            false,
+        ],
     }
 }
 
-fn start() -> Configuration {
-    Configuration {
-        state: 0,
-        held: [false; 8],
-        values: [0u32; 8],
-        counters: [0u32; 16],
-        tallies: [0u32; 12],
-    }
-}
+const START: Configuration = Configuration {
+    state: 0,
+    held: [false; 8],
+    values: [0; 8],
+    counters: [0; 16],
+    tallies: [0; 12],
+};
 
 // Variable 0 is held.
 fn holding(x: u32) -> Configuration {
-    let mut c = start();
+    let mut c = START;
     c.held[0] = true;
     c.values[0] = x;
     c
 }
 
 // List 8 holds one value, 100.
-fn gathered() -> Configuration {
-    let mut c = start();
-    c.tallies[0] = 100;
-    c.tallies[4] = 1;
-    c.tallies[8] = 1;
-    c
+const GATHERED: Configuration = Configuration {
+    tallies: [100, 0, 0, 0, 1, 0, 0, 0, 1, 0, 0, 0],
+    ..START
+};
+
+// The time's field rises, or is plain.
+const RISING: [bool; 8] = [true, false, false, false, false, false, false, false];
+
+const PLAIN: [bool; 8] = [false; 8];
+
+// A formula, and the configuration that tries its STEP at offset 2.
+#[derive(Clone, Copy)]
+struct Case<'a> {
+    name: &'a str,
+    formula: &'a [u8],
+    from: Configuration,
 }
 
-// Whether the STEP at offset 2 is expired after a time, or none, and the code 1.
-fn show_expired(
-    rt: &impl Print,
-    name: &str,
-    f: &[u8],
-    c: Configuration,
-    rising: bool,
-    there: bool,
-    time: u32,
-) -> io::Result<()> {
-    let rises = [rising, false, false, false, false, false, false, false];
-    let latest = Latest {
-        values: [time, 1, 0, 0, 0, 0, 0, 0],
-        present: [there, true, false, false, false, false, false, false],
-    };
-    put_case(rt, name, there, time)?;
-    let expired = machine_code::expiring::expired(f, 2, c, [true; 32], rises, latest);
-    say(rt, expired)
-}
+impl<'a> Case<'a> {
+    fn new(name: &'a str, formula: &'a [u8], from: Configuration) -> Self {
+        Case {
+            name,
+            formula,
+            from,
+        }
+    }
 
-// The same after a time in a rising field, and after none.
-fn show_with_none(
-    rt: &impl Print,
-    name: &str,
-    f: &[u8],
-    c: Configuration,
-    time: u32,
-) -> io::Result<()> {
-    show_expired(rt, name, f, c, true, true, time)?;
-    show_expired(rt, name, f, c, true, false, 0)
+    // Whether the STEP is expired after a time, or none, and the code 1.
+    fn show_expired(&self, rt: &impl Print, rises: [bool; 8], time: Option<u32>) -> io::Result<()> {
+        let Event { values, present } = event(time, 1);
+        let latest = Latest { values, present };
+        let expired = machine_code::expiring::expired(
+            self.formula,
+            2,
+            self.from,
+            [true; 32],
+            rises,
+            latest,
+        );
+        println!(rt; "{} {} {}", self.name, Time(time), word(expired))
+    }
+
+    // The same after a time in a rising field, and after none.
+    fn show_with_none(&self, rt: &impl Print, time: u32) -> io::Result<()> {
+        self.show_expired(rt, RISING, Some(time))?;
+        self.show_expired(rt, RISING, None)
+    }
+
+    // Whether the STEP fires on an event with a time, or none, and the code 1.
+    fn show_fires_on(&self, rt: &impl Print, time: Option<u32>) -> io::Result<()> {
+        let fired = machine_code::firing::fire(
+            self.formula,
+            2,
+            self.from,
+            [true; 32],
+            event(time, 1),
+        );
+        println!(rt; "{} {} {}", self.name, Time(time), word(fired.fires))
+    }
+
+    // The same with the time 0 and without.
+    fn show_without(&self, rt: &impl Print) -> io::Result<()> {
+        self.show_fires_on(rt, Some(0))?;
+        self.show_fires_on(rt, None)
+    }
 }
 
 // Time less than 600.
-const BEFORE: [u8; 14] = *b"\x10\x00\x11\x01\x12\x00\x02\x00\x00\x02\x58\x10\x02\x00";
+const BEFORE: &[u8] = b"\x10\x00\x11\x01\x12\x00\x02\x00\x00\x02\x58\x10\x02\x00";
 
 // Gathers time into list 8, the guard being that the list's sum is less than 600.
-const SUM: [u8; 19] = *b"\x10\x00\
+const SUM: &[u8] = b"\x10\x00\
     \x11\x01\x17\x00\x08\x15\x25\x2C\x08\x20\x00\x00\x02\x58\
     \x10\x02\x00";
 
 // Binds time to variable 0, the guard being that this is less than 600.
-const BOUND: [u8; 19] = *b"\x10\x00\
+const BOUND: &[u8] = b"\x10\x00\
     \x11\x01\x14\x00\x00\x15\x25\x21\x00\x20\x00\x00\x02\x58\
     \x10\x02\x00";
 
 // The times about a bound.
 fn show_bounds(rt: &impl Print) -> io::Result<()> {
-    show_expired(rt, "expired after", &BEFORE, start(), true, true, 599)?;
-    show_expired(rt, "expired after", &BEFORE, start(), true, true, 600)?;
-    show_expired(rt, "expired after", &BEFORE, start(), true, true, 601)?;
-    show_expired(rt, "expired after", &BEFORE, start(), false, true, 601)?;
-    show_expired(rt, "sum expired after", &SUM, gathered(), true, true, 499)?;
-    show_expired(rt, "sum expired after", &SUM, gathered(), true, true, 500)?;
-    show_expired(rt, "sum expired after", &SUM, gathered(), false, true, 500)
+    let before = Case::new("expired after", BEFORE, START);
+    before.show_expired(rt, RISING, Some(599))?;
+    before.show_expired(rt, RISING, Some(600))?;
+    before.show_expired(rt, RISING, Some(601))?;
+    before.show_expired(rt, PLAIN, Some(601))?;
+    let sum = Case::new("sum expired after", SUM, GATHERED);
+    sum.show_expired(rt, RISING, Some(499))?;
+    sum.show_expired(rt, RISING, Some(500))?;
+    sum.show_expired(rt, PLAIN, Some(500))
 }
 
 // TEST and TESTV with less: no bound is past where no time arrived, not 0 either.
 fn show_tests(rt: &impl Print) -> io::Result<()> {
     let zero = b"\x10\x00\x11\x01\x12\x00\x02\x00\x00\x00\x00\x10\x02\x00";
     let variable = b"\x10\x00\x11\x01\x13\x00\x02\x00\x10\x02\x00";
-    show_expired(rt, "expired after", &BEFORE, start(), true, false, 0)?;
-    show_with_none(rt, "less 0 expired after", zero, start(), 0)?;
-    show_with_none(
-        rt,
-        "less held 600 expired after",
-        variable,
-        holding(600),
-        600,
-    )?;
-    show_with_none(rt, "less held 0 expired after", variable, holding(0), 0)
+    Case::new("expired after", BEFORE, START).show_expired(rt, RISING, None)?;
+    Case::new("less 0 expired after", zero, START).show_with_none(rt, 0)?;
+    Case::new("less held 600 expired after", variable, holding(600)).show_with_none(rt, 600)?;
+    Case::new("less held 0 expired after", variable, holding(0)).show_with_none(rt, 0)
 }
 
 // A sum needs the time that a step gathers into its list; a length counts it.
@@ -140,11 +177,11 @@ fn show_lists(rt: &impl Print) -> io::Result<()> {
     let length_3 = b"\x10\x00\
         \x11\x01\x17\x00\x08\x15\x25\x2D\x08\x20\x00\x00\x00\x03\
         \x10\x02\x00";
-    show_with_none(rt, "sum expired after", &SUM, gathered(), 500)?;
-    show_with_none(rt, "sum 100 expired after", sum_100, gathered(), 0)?;
-    show_with_none(rt, "sum of 9 expired after", sum_of_9, gathered(), 0)?;
-    show_with_none(rt, "length 2 expired after", length_2, gathered(), 499)?;
-    show_with_none(rt, "length 3 expired after", length_3, gathered(), 499)
+    Case::new("sum expired after", SUM, GATHERED).show_with_none(rt, 500)?;
+    Case::new("sum 100 expired after", sum_100, GATHERED).show_with_none(rt, 0)?;
+    Case::new("sum of 9 expired after", sum_of_9, GATHERED).show_with_none(rt, 0)?;
+    Case::new("length 2 expired after", length_2, GATHERED).show_with_none(rt, 499)?;
+    Case::new("length 3 expired after", length_3, GATHERED).show_with_none(rt, 499)
 }
 
 // A guard that names a variable bound to the time, in a branch not taken too; a held one has its value; the first BIND decides.
@@ -162,21 +199,20 @@ fn show_variables(rt: &impl Print) -> io::Result<()> {
     let twice = b"\x10\x00\
         \x11\x01\x14\x00\x00\x14\x01\x00\x15\x25\x21\x00\x20\x00\x00\x02\x58\
         \x10\x02\x00";
-    show_with_none(rt, "variable expired after", &BOUND, start(), 600)?;
-    show_with_none(rt, "variable below 0 expired after", zero, start(), 0)?;
-    show_with_none(rt, "held 600 expired after", &BOUND, holding(600), 0)?;
-    show_with_none(rt, "held 599 expired after", &BOUND, holding(599), 600)?;
-    show_with_none(rt, "unnamed expired after", unnamed, start(), 0)?;
-    show_with_none(rt, "branch expired after", choice, start(), 599)?;
-    show_with_none(rt, "bound twice expired after", twice, start(), 600)
+    Case::new("variable expired after", BOUND, START).show_with_none(rt, 600)?;
+    Case::new("variable below 0 expired after", zero, START).show_with_none(rt, 0)?;
+    Case::new("held 600 expired after", BOUND, holding(600)).show_with_none(rt, 0)?;
+    Case::new("held 599 expired after", BOUND, holding(599)).show_with_none(rt, 600)?;
+    Case::new("unnamed expired after", unnamed, START).show_with_none(rt, 0)?;
+    Case::new("branch expired after", choice, START).show_with_none(rt, 599)?;
+    Case::new("bound twice expired after", twice, START).show_with_none(rt, 600)
 }
 
-// Whether the STEP at an offset of F fires on an event, from its state with variable 0 as held.
+// Whether the STEP at an offset of F fires on an event, from its state.
 fn show_fires(
     rt: &impl Print,
     at: usize,
-    state: u32,
-    held: bool,
+    from: Configuration,
     time: u32,
     code: u32,
 ) -> io::Result<()> {
@@ -185,42 +221,8 @@ fn show_fires(
         \x10\x00\
         \x11\x02\x12\x01\x00\x00\x00\x00\x02\
         \x10\x02\x00";
-    let mut c = start();
-    c.state = state;
-    if held {
-        c.held[0] = true;
-        c.values[0] = 500;
-    }
-    print!(rt; "fires at {at}")?;
-    let event = Event {
-        values: [time, code, 0, 0, 0, 0, 0, 0],
-        present: [true, true, false, false, false, false, false, false],
-    };
-    let fired = machine_code::firing::fire(f, at, c, [true; 32], event);
-    say(rt, fired.fires)
-}
-
-// Whether the STEP at offset 2 fires on an event with the time 0, or none, and the code 1.
-fn show_fires_on(
-    rt: &impl Print,
-    name: &str,
-    f: &[u8],
-    c: Configuration,
-    there: bool,
-) -> io::Result<()> {
-    let event = Event {
-        values: [0, 1, 0, 0, 0, 0, 0, 0],
-        present: [there, true, false, false, false, false, false, false],
-    };
-    put_case(rt, name, there, 0)?;
-    let fired = machine_code::firing::fire(f, 2, c, [true; 32], event);
-    say(rt, fired.fires)
-}
-
-// The same with the time and without.
-fn show_without(rt: &impl Print, name: &str, f: &[u8], c: Configuration) -> io::Result<()> {
-    show_fires_on(rt, name, f, c, true)?;
-    show_fires_on(rt, name, f, c, false)
+    let fired = machine_code::firing::fire(f, at, from, [true; 32], event(Some(time), code));
+    println!(rt; "fires at {at} {}", word(fired.fires))
 }
 
 // No test of an absent time holds, unequal neither.
@@ -231,13 +233,13 @@ fn show_absent_tests(rt: &impl Print) -> io::Result<()> {
     let at_least = b"\x10\x00\x11\x01\x12\x00\x05\x00\x00\x00\x00\x10\x02\x00";
     let equal_held = b"\x10\x00\x11\x01\x13\x00\x00\x00\x10\x02\x00";
     let unequal_held = b"\x10\x00\x11\x01\x13\x00\x01\x00\x10\x02\x00";
-    show_without(rt, "equal 0 fires on", equal, start())?;
-    show_without(rt, "unequal 600 fires on", unequal, start())?;
-    show_without(rt, "less 600 fires on", &BEFORE, start())?;
-    show_without(rt, "at most 0 fires on", at_most, start())?;
-    show_without(rt, "at least 0 fires on", at_least, start())?;
-    show_without(rt, "equal held 0 fires on", equal_held, holding(0))?;
-    show_without(rt, "unequal held 600 fires on", unequal_held, holding(600))
+    Case::new("equal 0 fires on", equal, START).show_without(rt)?;
+    Case::new("unequal 600 fires on", unequal, START).show_without(rt)?;
+    Case::new("less 600 fires on", BEFORE, START).show_without(rt)?;
+    Case::new("at most 0 fires on", at_most, START).show_without(rt)?;
+    Case::new("at least 0 fires on", at_least, START).show_without(rt)?;
+    Case::new("equal held 0 fires on", equal_held, holding(0)).show_without(rt)?;
+    Case::new("unequal held 600 fires on", unequal_held, holding(600)).show_without(rt)
 }
 
 // No BIND or GATHER takes an absent time; a step that does not read it fires.
@@ -246,16 +248,16 @@ fn show_absent_values(rt: &impl Print) -> io::Result<()> {
     let gather = b"\x10\x00\x11\x01\x17\x00\x08\x10\x02\x00";
     let code = b"\x10\x00\x11\x01\x12\x01\x00\x00\x00\x00\x01\x10\x02\x00";
     let bare = b"\x10\x00\x11\x01\x10\x02\x00";
-    show_without(rt, "bind fires on", bind, start())?;
-    show_without(rt, "bind held 0 fires on", bind, holding(0))?;
-    show_without(rt, "gather fires on", gather, start())?;
-    show_without(rt, "code fires on", code, start())?;
-    show_without(rt, "bare fires on", bare, start())
+    Case::new("bind fires on", bind, START).show_without(rt)?;
+    Case::new("bind held 0 fires on", bind, holding(0)).show_without(rt)?;
+    Case::new("gather fires on", gather, START).show_without(rt)?;
+    Case::new("code fires on", code, START).show_without(rt)?;
+    Case::new("bare fires on", bare, START).show_without(rt)
 }
 
 // Where step k of state s stands by a table with the offsets of three STEPs, 0 where there is none.
 fn show_place(rt: &impl Print, s: u32, k: usize) -> io::Result<()> {
-    let mut table = [0usize; 128];
+    let mut table = [0; 128];
     table[0] = 2;
     table[1] = 14;
     table[8] = 27;
@@ -268,12 +270,16 @@ fn main(rt: HostRuntime) -> io::Result<()> {
     show_tests(&rt)?;
     show_lists(&rt)?;
     show_variables(&rt)?;
-    show_fires(&rt, 2, 0, false, 500, 1)?;
-    show_fires(&rt, 2, 0, false, 500, 2)?;
-    show_fires(&rt, 2, 0, true, 500, 1)?;
-    show_fires(&rt, 2, 0, true, 501, 1)?;
-    show_fires(&rt, 16, 1, true, 500, 1)?;
-    show_fires(&rt, 16, 1, true, 500, 2)?;
+    show_fires(&rt, 2, START, 500, 1)?;
+    show_fires(&rt, 2, START, 500, 2)?;
+    show_fires(&rt, 2, holding(500), 500, 1)?;
+    show_fires(&rt, 2, holding(500), 501, 1)?;
+    let tripped = Configuration {
+        state: 1,
+        ..holding(500)
+    };
+    show_fires(&rt, 16, tripped, 500, 1)?;
+    show_fires(&rt, 16, tripped, 500, 2)?;
     show_absent_tests(&rt)?;
     show_absent_values(&rt)?;
     show_place(&rt, 0, 0)?;

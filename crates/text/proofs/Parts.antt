@@ -6,18 +6,20 @@ use mathlib.Core.List.{List, [], ◌∷◌, ◌++◌, append-nil, append_assoc}
 use native.Mathlib.Numerals.{add-one}
 use native.Mathlib.Nat.{add-zero, suc-mul, le_of_eq, pow-suc}
 use native.Mathlib.Omega.{arith}
-use lib.ListN.{get_or}
+use lib.ListN.{length, get_or}
 use lib.Dec.{eqb, ltb}
 use borrow.Author.Tests.{lt-ltb, le-ltb, eq-eqb, ne_eqb}
 use Rattle.refusal.specs.declared.Report.{Report}
 use Rattle.text.specs.Text.{ascii, digits, decimal, word, spaced, variable, each, held, variables, details, line, refused_line}
+use Rattle.text.specs.declared.Page.{Page}
 use Rattle.text.specs.inner.Adds.{Adds}
-use Rattle.text.proofs.Growing.{nothing, behind, same_text}
+use Rattle.text.specs.inner.Grows.{Grows}
+use Rattle.text.proofs.Growing.{nothing, unchanged, behind, further, same_text, same_page}
 
 -- digits: none in no place; a number below 10 is its digit; a greater one has its last digit behind the others
-pub no-digits : (before : List ℕ) (at k n : ℕ) → k ≡ 0 → Adds k before at before at (digits k n)
+pub no-digits : (p : Page) (k n : ℕ) → k ≡ 0 → Grows k p p (digits k n)
 unfolding digits
-no-digits before at k n e = rw e (nothing before at)
+no-digits p k n e = rw e (unchanged p)
 
 pub one-digit : (k n : ℕ) → n < 10 → 0 < k → (48 + n % 10) ∷ [] ≡ digits k n
 unfolding digits
@@ -49,6 +51,10 @@ exact-digits k n h p f = same_digits k 20 n h (omega arith) p (omega arith)
 pub known-word : (v k : ℕ) → v ≡ k → ascii " " ++ word k ≡ ascii " " ++ word v
 known-word v k e = rw e
 
+pub worded : {p q : Page} {more text : List ℕ} (k : ℕ) → more ≡ text → length text ≤ 9 → text ≡ ascii " " ++ word k
+    → Grows (length more) p q more → Grows 9 p q (ascii " " ++ word k)
+worded k e h t a = same_page (e ∙ t) (rw e h) a
+
 pub rejected-word : (v : ℕ) → (v ≡ 0 → ⊥) → (v ≡ 1 → ⊥) → (v ≡ 2 → ⊥) → ascii " " ++ word 3 ≡ ascii " " ++ word v
 unfolding word
 rejected-word zero h k l = absurd (h refl)
@@ -64,10 +70,10 @@ held-text held v x e = rw (e, append_assoc)
 pub unheld-text : (held : Bool) (v x : ℕ) → held ≡ false → [] ≡ cond held (variable v x) []
 unheld-text held v x e = rw e
 
--- a text for each number: none so far; one more at the end
-pub none_yet : (text : ℕ → List ℕ) (before : List ℕ) (at : ℕ) → Adds 0 before at before at (each text 0 0)
+-- a text for each number: none so far; one more at the end; the same of a page
+each_none : (text : ℕ → List ℕ) → [] ≡ each text 0 0
 unfolding each
-none_yet text before at = nothing before at
+each_none text = refl
 
 each_more : (text : ℕ → List ℕ) (k n : ℕ) → each text k n ++ text (n + k) ≡ each text (suc k) n
 unfolding each
@@ -76,12 +82,24 @@ each_more text (suc k) n =
     let e : suc n + k ≡ n + suc k = omega arith in
     append_assoc (text n) (each text k (suc n)) (text (n + suc k)) ∙ ap (λ t. text n ++ t) (rw e at (each_more text k (suc n)))
 
+each_next : {more : List ℕ} (text : ℕ → List ℕ) (n : ℕ) → more ≡ text n → each text n 0 ++ more ≡ each text (n + 1) 0
+each_next text n e =
+    let h : 0 + n ≡ n = omega arith in
+    ap (λ t. each text n 0 ++ t) e ∙ rw (add-one n) (rw h at (each_more text n 0))
+
+pub none_yet : (text : ℕ → List ℕ) (before : List ℕ) (at : ℕ) → Adds 0 before at before at (each text 0 0)
+none_yet text before at = same_text (each_none text) (omega arith) (nothing before at)
+
 pub one_more : {most at to end : ℕ} {before mid after more : List ℕ} (text : ℕ → List ℕ) (n : ℕ) → more ≡ text n
     → Adds (n * most) before at mid to (each text n 0) → Adds most mid to after end more → Adds ((n + 1) * most) before at after end (each text (n + 1) 0)
-one_more {most = most} text n e a b =
-    let h : 0 + n ≡ n = omega arith in
-    let m : each text n 0 ++ text n ≡ each text (n + 1) 0 = rw (add-one n) (rw h at (each_more text n 0)) in
-    same_text (ap (λ t. each text n 0 ++ t) e ∙ m) (le_of_eq (rw (add-one n) (sym (suc-mul n most)))) (behind a b)
+one_more {most = most} text n e a b = same_text (each_next text n e) (le_of_eq (rw (add-one n) (sym (suc-mul n most)))) (behind a b)
+
+pub page_yet : (text : ℕ → List ℕ) (p : Page) → Grows 0 p p (each text 0 0)
+page_yet text p = same_page (each_none text) (omega arith) (unchanged p)
+
+pub page_more : {most : ℕ} {p q r : Page} {more : List ℕ} (text : ℕ → List ℕ) (n : ℕ) → more ≡ text n
+    → Grows (n * most) p q (each text n 0) → Grows most q r more → Grows ((n + 1) * most) p r (each text (n + 1) 0)
+page_more {most = most} text n e a b = same_page (each_next text n e) (le_of_eq (rw (add-one n) (sym (suc-mul n most)))) (further a b)
 
 -- the mask's bit for a variable is the lowest of those that are left
 pub held-is : (r : List ℕ) (v rest : ℕ) → rest ≡ get_or r 3 0 / 2 ^ v → cond (eqb (rest % 2) 1) (variable v (get_or r (4 + v) 0)) [] ≡ held r v

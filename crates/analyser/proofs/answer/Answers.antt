@@ -18,8 +18,8 @@ pub returns-in-Done : goal.returns-in-Done
 returns-in-Done c = let g = c.args in
     let l = g.l.now in
     let e = ap (λ x. x.events) c.read_log-reading.ensures ∙ events_are (read_log l) in
-    same_text (done-text l g.f.now c.analyse-outcome.ensures refl refl _ c.in-Done.is e) (omega arith) c.lines_in.ensures
+    same_text (done-text l g.f.now c.analyse.ensures refl refl _ c.in-Done.is e) (omega arith) c.lines_in.ensures
 
 pub returns-in-Refused : goal.returns-in-Refused
 returns-in-Refused c = let g = c.args in
-    same_text (refused-text g.l.now g.f.now c.analyse-outcome.ensures refl refl _ c.in-Refused.is) (omega arith) c.refusal_in.ensures
+    same_text (refused-text g.l.now g.f.now c.analyse.ensures refl refl _ c.in-Refused.is) (omega arith) c.refusal_in.ensures
