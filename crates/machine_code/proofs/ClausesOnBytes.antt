@@ -1,20 +1,17 @@
 -- Walking a step's clauses over its bytes: what each function of the code computes, and that on a step's bytes it is the definition's walk.
 use Prim.Native.Nat.{ℕ, zero, suc, ◌+◌, ◌-◌, ◌<◌, ◌≤◌}
 use mathlib.Core.Path.{◌≡◌, refl, ap, sym, ◌∙◌}
-use mathlib.Core.Bool.{Bool, true, false, cond, ◌&&◌, ◌||◌}
+use mathlib.Core.Bool.{Bool, true, false, cond}
 use mathlib.Core.List.{List}
 use native.Mathlib.Omega.{arith}
 use borrow.Author.Tests.{lt-ltb, le-ltb, ne_eqb, ltb-true, ltb-false}
-use lib.ListN.{length, get_or, set, get_or-eq_default}
-use lib.Seq.{set_out}
+use lib.ListN.{length, get_or, get_or-eq_default}
 use lib.Dec.{eqb, ltb}
 use Rattle.base.specs.Value.{value_at}
-use Rattle.event_log.specs.Log.{Values, field}
-use Rattle.event_log.specs.Event.{together}
-use Rattle.event_log.proofs.Fields.{present-together}
+use Rattle.event_log.specs.Log.{Values}
 use Rattle.machine_code.specs.declared.Configuration.{Configuration}
 use Rattle.machine_code.specs.declared.Walked.{Walked}
-use Rattle.machine_code.specs.inner.Bytes.{holds_by, missed_by, is_clause, tested, holding, bound, noted, met, clause_on, clause_at}
+use Rattle.machine_code.specs.inner.Bytes.{is_clause, tested, bound, noted, met, clause_on, clause_at}
 use Rattle.machine_code.specs.inner.Bytes.{walk_from, begun, walked}
 use Rattle.machine_code.specs.inner.Walking.{Walking}
 
@@ -22,10 +19,6 @@ use Rattle.machine_code.specs.inner.Walking.{Walking}
 pub either : (P : Walked → Type 0) (t : Bool) (a b : Walked) → P a → P b → P (cond t a b)
 either P true a b p q = p
 either P false a b p q = q
-
--- past the 8 marks there is none
-no-mark : (l : List Bool) (i : ℕ) → length l ≡ 8 → 8 ≤ i → false ≡ get_or l i false
-no-mark l i h k = sym (get_or-eq_default l false (omega arith))
 
 pub clause-gather : (c : ℕ) → c ≡ 0x17 → true ≡ is_clause c
 unfolding is_clause
@@ -54,62 +47,6 @@ clause-inside f at h = go (ltb at (length f)) refl
         let z : true ≡ false = sym h ∙ ap is_clause q ∙ sym (clause-low 0 (omega arith)) in
         let n : ◌≡◌ {A = ℕ} 0 1 = cc in absurd (omega arith)
 
--- what each clause does to a walk
-pub test-made : (w : Walked) (next o x y : ℕ) (r p h d b m : Bool) → h ≡ holds_by o x y → p ≡ (w.passes && h) → m ≡ missed_by o x y → b ≡ (r && m)
-    → d ≡ (w.due || b)
-    → record {
-      at = next;
-      passes = p;
-      due = d;
-      gathers = w.gathers;
-      held = w.held;
-      values = w.values;
-      grows = w.grows;
-    }
-    ≡ tested w next o x y r
-unfolding tested
-test-made w next o x y r p h d b m e₁ e₂ e₃ e₄ e₅ = rw (e₂, e₅, e₁, e₄, e₃)
-
-pub hold-out : (w : Walked) (v x : ℕ) (r : Bool) → length w.held ≡ 8 → length w.values ≡ 8 → length w.grows ≡ 8 → 8 ≤ v → w ≡ holding w v x r
-unfolding holding
-hold-out w v x r h₁ h₂ h₃ k =
-    let a : length w.held ≤ v = omega arith in
-    let b : length w.values ≤ v = omega arith in
-    let d : length w.grows ≤ v = omega arith in
-    rw (← no-mark w.held v h₁ k, set_out w.held v true a, set_out w.values v x b, set_out w.grows v r d)
-
-pub hold-kept : (w : Walked) (v x : ℕ) (r : Bool) → get_or w.held v false ≡ true → w ≡ holding w v x r
-unfolding holding
-hold-kept w v x r h = rw h
-
-pub hold-taken : (w : Walked) (v x : ℕ) (r : Bool) → get_or w.held v false ≡ false
-    → record {
-      at = w.at;
-      passes = w.passes;
-      due = w.due;
-      gathers = w.gathers;
-      held = set w.held v true;
-      values = set w.values v x;
-      grows = set w.grows v r;
-    }
-    ≡ holding w v x r
-unfolding holding
-hold-taken w v x r h = rw h
-
-pub bind-made : (w d : Walked) (next v x y : ℕ) (r p : Bool) → d ≡ holding w v x r → y ≡ get_or d.values v 0 → p ≡ (w.passes && eqb x y)
-    → record {
-      at = next;
-      passes = p;
-      due = d.due;
-      gathers = d.gathers;
-      held = d.held;
-      values = d.values;
-      grows = d.grows;
-    }
-    ≡ bound w next v x r
-unfolding bound
-bind-made w d next v x y r p e₁ e₂ e₃ = rw (e₃, e₂, ← e₁)
-
 -- the clause's operands as the code reads them
 module _ (f prior : List ℕ) (w : Walked) (x o c : ℕ) (r : Bool) (e₄ : o ≡ get_or f (w.at + 2) 0) (e₅ : c ≡ get_or f w.at 0) where
   pub clause-test : (y : ℕ) (d : Walked) → c ≡ 0x12 → y ≡ value_at f (w.at + 3) → d ≡ tested w (w.at + 7) o x y r → d ≡ clause_on f prior w x r
@@ -128,34 +65,6 @@ module _ (f prior : List ℕ) (w : Walked) (x o c : ℕ) (r : Bool) (e₄ : o �
   pub clause-bind : (d : Walked) → (c ≡ 0x12 → ⊥) → (c ≡ 0x13 → ⊥) → (c ≡ 0x17 → ⊥) → d ≡ bound w (w.at + 3) o x r → d ≡ clause_on f prior w x r
   unfolding clause_on
   clause-bind d n m k g = rw (← e₅, ne_eqb c 0x12 n, ne_eqb c 0x13 m, ne_eqb c 0x17 k, ← e₄) g
-
--- the walk at a clause
-pub meet-made : (w : Walked) (there p : Bool) → p ≡ (w.passes && there)
-    → record {
-      at = w.at;
-      passes = p;
-      due = w.due;
-      gathers = w.gathers;
-      held = w.held;
-      values = w.values;
-      grows = w.grows;
-    }
-    ≡ met w there
-unfolding met
-meet-made w there p e = rw e
-
--- it stands where it stood
-pub meet-at : (w : Walked) (there : Bool) → (met w there).at ≡ w.at
-unfolding met
-meet-at w there = refl
-
--- the field as the code reads it
-pub clause-read : (f prior : List ℕ) (rises there : List Bool) (event : List ℕ) (w v d : Walked) (k x : ℕ) (p r q : Bool) → k ≡ get_or f (w.at + 1) 0
-    → p ≡ get_or there k false → x ≡ field (together there event) k → r ≡ get_or rises k false → q ≡ (r && p) → v ≡ met w p → d ≡ clause_on f prior v x q
-    → d ≡ clause_at f prior rises (together there event) w
-unfolding clause_at
-clause-read f prior rises there event w v d k x p r q e₁ e₂ e₃ e₄ e₅ e₆ g =
-    rw (← e₁, present-together there event k, ← e₂, ← e₃, ← e₄, ← e₅, ← e₆) g
 
 -- a clause takes at least 3 bytes
 pub clause-progress : (f prior : List ℕ) (rises : List Bool) (event : Values) (w : Walked) → w.at + 3 ≤ (clause_at f prior rises event w).at

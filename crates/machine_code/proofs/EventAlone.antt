@@ -1,21 +1,19 @@
 -- What an event says of a step, alone or with the values held before it: a clause that fails keeps the walk from passing, and one past due stays
 -- past due, whatever follows.
 use Prim.Native.Nat.{ℕ, zero, suc, ◌+◌, ◌≤◌}
-use mathlib.Core.Path.{◌≡◌, refl, ap, sym, subst, ◌∙◌}
+use mathlib.Core.Path.{◌≡◌, refl, ap, sym, ◌∙◌}
 use mathlib.Core.Bool.{Bool, true, false, cond, not, ◌&&◌, ◌||◌, true≢false}
 use mathlib.Core.List.{List}
 use native.Mathlib.Omega.{arith}
-use borrow.Author.Tests.{ne_eqb, eqb-true, eqb-false, ltb-true, ltb-false, not-true}
+use borrow.Author.Tests.{eqb-true, eqb-false, ltb-true, ltb-false, not-true}
 use lib.ListN.{length, get_or, replicate}
 use lib.Seq.{get_or-set_other}
 use lib.Dec.{eqb, ltb, leb}
 use Rattle.base.specs.Value.{value_at}
 use Rattle.event_log.specs.Log.{Values, present, field}
-use Rattle.event_log.specs.Event.{together}
-use Rattle.event_log.proofs.Fields.{present-together}
 use Rattle.machine_code.specs.declared.Configuration.{Configuration}
 use Rattle.machine_code.specs.declared.Walked.{Walked}
-use Rattle.machine_code.specs.inner.Bytes.{holds_by, missed_by, is_clause, width_of, tested, holding, bound, noted, met, clause_on, clause_at, walk_from, begun}
+use Rattle.machine_code.specs.inner.Bytes.{holds_by, is_clause, width_of, tested, holding, bound, noted, met, clause_on, clause_at, walk_from, begun}
 use Rattle.machine_code.specs.inner.Bytes.{walked, Firing, fired, lapsed}
 use Rattle.base.proofs.Tests.{and-false, or_right}
 use Rattle.runs.proofs.Moves.{and_both}

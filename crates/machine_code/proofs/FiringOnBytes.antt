@@ -8,8 +8,7 @@ use Rattle.std.specs.Prelude as std
 use Rattle.std.specs.Prelude.{None}
 use native.Mathlib.Omega.{arith}
 use borrow.Author.Tests.{le-leb, lt-leb, ne_eqb}
-use lib.ListN.{length, get_or, drop, set, replicate, length-drop, length-append}
-use lib.Seq.{set_out}
+use lib.ListN.{length, get_or, drop, replicate, length-drop, length-append}
 use Rattle.base.proofs.Lists.{replicate-at}
 use Rattle.base.specs.Lists.{All, some_if}
 use Rattle.event_log.specs.Log.{Kind, Values}

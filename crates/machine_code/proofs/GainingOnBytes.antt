@@ -4,7 +4,7 @@ use mathlib.Core.Path.{◌≡◌, refl, ap, sym, ◌∙◌}
 use mathlib.Core.Bool.{Bool, true, false, cond, not, ◌&&◌, ◌||◌, and_assoc, true≢false}
 use mathlib.Core.List.{List, [], ◌∷◌, ◌++◌, append_assoc, flat_map}
 use native.Mathlib.Omega.{arith}
-use borrow.Author.Tests.{lt-ltb, le-ltb, ne_eqb, eqb-true, eqb-false}
+use borrow.Author.Tests.{lt-ltb, ne_eqb, eqb-true, eqb-false}
 use lib.ListN.{length, get_or, drop, set, length-set}
 use lib.Seq.{get_or-set_same, get_or-set_other}
 use lib.Dec.{eqb}
@@ -15,7 +15,7 @@ use Rattle.formula.specs.Formula.{Clause, TEST, TESTV, BIND, GATHER}
 use Rattle.formula.specs.Encode.{CLAUSE, list_byte, encode_clause}
 use Rattle.formula.specs.Correct.{Exists}
 use Rattle.machine.specs.Expiry.{rises, gathers, gathers_rising}
-use Rattle.machine.specs.inner.Along.{tally_add, carry_all}
+use Rattle.machine.specs.inner.Along.{carry_all}
 use Rattle.machine_code.specs.declared.Configuration.{Configuration}
 use Rattle.machine_code.specs.declared.Gained.{Gained}
 use Rattle.machine_code.specs.declared.Walked.{Walked}
@@ -25,21 +25,10 @@ use Rattle.machine_code.proofs.ClausesOnBytes.{either, clause-inside}
 use Rattle.machine_code.proofs.EventAlone.{clause-keeps, walk-keeps, clause-place, clause-width}
 use Rattle.machine_code.proofs.WalkOnBytes.{byte-from, first_byte, drop_more, is-clause, width-encode}
 
--- a GATHER into a list that is not there, and into one that is
-pub gather-out : (g : Gained) (k o x l : ℕ) (r : Bool) (fresh : List Bool) → l ≡ o - 8 → 4 ≤ l → g ≡ gathered g k o x r fresh
-unfolding gathered
-gather-out g k o x l r fresh e h = rw (← e, le-ltb l 4 h)
-
 pub gather-in : (g : Gained) (k o x l : ℕ) (r : Bool) (fresh : List Bool) → l ≡ o - 8 → l < 4
     → gaining g l x r (get_or fresh (l * 8 + k) false) ≡ gathered g k o x r fresh
 unfolding gathered
 gather-in g k o x l r fresh e h = rw (← e, lt-ltb l 4 h)
-
-pub gather-made : (g : Gained) (k o x l : ℕ) (r n p : Bool) (fresh : List Bool) (ts : List ℕ) → l ≡ o - 8 → l < 4
-    → n ≡ get_or fresh (l * 8 + k) false → ts ≡ tally_add g.tallies l x n → p ≡ (get_or g.rising l false && r)
-    → record { tallies = ts; rising = set g.rising l p; unchanged = set g.unchanged l false } ≡ gathered g k o x r fresh
-unfolding gaining
-gather-made g k o x l r n p fresh ts e h f t q = rw (← gather-in g k o x l r fresh e h, ← f, ← t, ← q)
 
 -- the clause at a place as the code reads it
 module _ (f : List ℕ) (fresh rises : List Bool) (event : Values) (p : ℕ) (g : Gained) (c : ℕ) (command : c ≡ get_or f p 0) where

@@ -6,7 +6,7 @@ ghost use Rattle.machine_code.specs.declared.Walked.{Walked};
 ghost use Rattle.machine_code.specs.inner.Bytes.{holds_by, missed_by, is_clause, tested, holding, bound, clause_on, clause_at, begun, walked};
 ghost use Rattle.machine_code.specs.inner.Walking.{Walking};
 
-use crate::{Configuration, Scene, Walked};
+use crate::{BIND, Configuration, GATHER, Scene, TEST, TESTV, Walked};
 
 // "Operators: 0 equal, 1 unequal, 2 less, 3 greater, 4 at most, 5 at least; the field is on the left".
 #[tactic(auto, unfolding(crate::specs::inner::Bytes::holds_by))]
@@ -40,7 +40,7 @@ pub fn missed(operator: u32, x: u32, y: u32) -> bool
 pub fn is_clause(f: &[u8], at: usize) -> bool
     ensures { result ≡ is_clause (get_or f.now at 0) }
 {
-    matches!(base::byte_at(f, at), 0x12..=0x14 | 0x17)
+    matches!(base::byte_at(f, at), TEST | TESTV | BIND | GATHER)
 }
 
 impl Walked {
@@ -113,12 +113,18 @@ impl Scene<'_> {
         let at = w.at;
         let operand = base::byte_at(f, at + 2);
         match base::byte_at(f, at) {
-            0x12 => w.test(at + 7, operand, x, base::value_at(f, at + 3), rising),
-            0x13 => {
+            TEST => w.test(at + 7, operand, x, base::value_at(f, at + 3), rising),
+            TESTV => {
                 let v = base::byte_at(f, at + 3) as usize;
-                w.test(at + 4, operand, x, base::get_or(&self.c.values, v, 0), rising)
+                w.test(
+                    at + 4,
+                    operand,
+                    x,
+                    base::get_or(&self.c.values, v, 0),
+                    rising,
+                )
             }
-            0x17 => {
+            GATHER => {
                 w.at = at + 3;
                 w.gathers = true;
             }
@@ -145,8 +151,8 @@ impl Scene<'_> {
         requires callable { F.IsAlwaysCallable stop }
         ensures { MatchOption result
             ((w : Walked)
-                × Walking self.now.f.now self.now.c.now.values self.now.rises.now self.now.fields (begun at self.now.c.now) w
-                × FnReturnsAt F.Fn stop w true)
+            × Walking self.now.f.now self.now.c.now.values self.now.rises.now self.now.fields (begun at self.now.c.now) w
+            × FnReturnsAt F.Fn stop w true)
             (λ w. (w ≡ walked self.now.f.now at self.now.c.now self.now.rises.now self.now.fields) × FnReturnsAt F.Fn stop w false) }
     {
         let mut w = Walked::begin(at, self.c);

@@ -33,7 +33,12 @@ impl Scene<'_> {
         }
         let w = self.walk(at, |w| !w.passes)?;
         let Gained { tallies, .. } = self.gains(at, &w);
-        let Walked { at: end, held, values, .. } = w;
+        let Walked {
+            at: end,
+            held,
+            values,
+            ..
+        } = w;
         let counters = raise(self.c.counters, self.c.state);
         if !guard_holds(self.f, end, values, counters, tallies) {
             return None;

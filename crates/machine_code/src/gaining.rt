@@ -5,7 +5,7 @@ ghost use Rattle.machine_code.specs.inner.Bytes.{kept, gathered, gain_at, gained
 
 use crate::clauses::is_clause;
 use crate::marks::width;
-use crate::{Gained, Scene, Walked};
+use crate::{GATHER, Gained, Scene, Walked};
 
 // The tallies with x added to list i; `new` says that no value of the list equals x.
 #[tactic(auto, unfolding(machine::specs::inner::Along::tally_add))]
@@ -55,13 +55,19 @@ impl Scene<'_> {
         requires { place < length self.now.f.now }
         ensures { g.new ≡ gain_at self.now.f.now self.now.fresh.now self.now.rises.now self.now.fields place g.old }
     {
-        if base::byte_at(self.f, place) != 0x17 {
+        if base::byte_at(self.f, place) != GATHER {
             return;
         }
         let field = base::byte_at(self.f, place + 1);
         let operand = base::byte_at(self.f, place + 2);
         let rising = self.rises(field);
-        g.gather(field, operand, self.fields.reading(field), rising, self.fresh);
+        g.gather(
+            field,
+            operand,
+            self.fields.reading(field),
+            rising,
+            self.fresh,
+        );
     }
 
     // What the clauses of the STEP at an offset add.

@@ -11,6 +11,18 @@ pub mod steps;
 
 use crate::readings::Fields;
 
+// "12 TEST, 13 TESTV, 14 BIND, 15 GUARD, 17 GATHER". Commands and operators are matched as the bytes that they are: an enum would be
+// decoded anew for every clause of every walk.
+const TEST: u32 = 0x12;
+
+const TESTV: u32 = 0x13;
+
+const BIND: u32 = 0x14;
+
+const GUARD: u32 = 0x15;
+
+const GATHER: u32 = 0x17;
+
 // "A configuration is a state, the held variables with values, and a counter per state"; a value is 0 where its variable is not held.
 // Of the 4 lists it holds only what guards read: their sums, their lengths, their numbers of different values.
 #[derive(Clone, Copy)]

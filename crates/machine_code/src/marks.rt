@@ -1,12 +1,13 @@
 // What an event alone says of a step: an absent field, or a TEST, which reads no variable. One pass over a step's clauses serves every configuration.
 // What it says with the values held before the step; and what the step's bytes alone say of its expiry.
-ghost use Rattle.std.specs.Prelude.{◌≡◌, ◌≤◌, ◌<◌, ◌+◌, ℕ, true, false, get_or, length, MatchResult};
+ghost use Rattle.std.specs.Prelude.{◌≡◌, ◌≤◌, ◌<◌, ◌+◌, ℕ, length, MatchResult};
 ghost use Rattle.event_log.specs.Event.{together};
 ghost use Rattle.machine_code.specs.inner.Bytes.{width_of};
 ghost use Rattle.machine_code.specs.inner.Marks.{BarredIs, BarsIs, DueIs, LastsIs, PickedIs, EndedIs, fails_at, misses_at, denies_at, ages_at};
 
 use crate::clauses::{holds, missed};
 use crate::readings::Fields;
+use crate::{BIND, GATHER, GUARD, TEST, TESTV};
 
 // The bytes of a clause, by its command; 0 for what is no clause.
 #[tactic(auto, unfolding(crate::specs::inner::Bytes::width_of))]
@@ -14,15 +15,15 @@ pub fn width(command: u32) -> usize
     ensures { result ≡ width_of command }
 {
     match command {
-        0x12 => 7,
-        0x13 => 4,
-        0x14 | 0x17 => 3,
+        TEST => 7,
+        TESTV => 4,
+        BIND | GATHER => 3,
         _ => 0,
     }
 }
 
-// The place of the first clause that a test picks, of those from a place on, up to one with fewer than `room` bytes from its first on;
-// or where they end.
+// The place of the first clause from a place on that a test picks; else, as an error, where they end: where no clause stands, or one with
+// fewer than `room` bytes from its first on, which the test may read.
 fn first<F: Fn(u32, usize) -> bool>(
     f: &[u8],
     from: usize,
@@ -59,7 +60,7 @@ fn fails(f: &[u8], command: u32, place: usize, event: &Fields<'_>) -> bool
 {
     let field = u32::from(f[place + 1]);
     !event.has(field)
-        || command == 0x12
+        || command == TEST
             && !holds(
                 u32::from(f[place + 2]),
                 event.reading(field),
@@ -74,7 +75,7 @@ fn misses(f: &[u8], command: u32, place: usize, rises: &[bool], latest: &Fields<
     ensures { result ≡ misses_at f.now command place rises.now latest.now }
 {
     let field = u32::from(f[place + 1]);
-    command == 0x12
+    command == TEST
         && base::get_or(rises, field as usize, false)
         && latest.has(field)
         && missed(
@@ -129,12 +130,12 @@ fn denies(
 {
     let field = u32::from(f[place + 1]);
     match command {
-        0x13 => {
+        TESTV => {
             let x = event.reading(field);
             let v = usize::from(f[place + 3]);
             !holds(u32::from(f[place + 2]), x, base::get_or(prior, v, 0))
         }
-        0x14 => {
+        BIND => {
             let v = usize::from(f[place + 2]);
             base::get_or(held, v, false) && event.reading(field) != base::get_or(prior, v, 0)
         }
@@ -172,7 +173,7 @@ fn ages(f: &[u8], command: u32, place: usize, rises: &[bool; 8]) -> bool
 {
     let operator = base::byte_at(f, place + 2);
     let field = base::byte_at(f, place + 1) as usize;
-    matches!(command, 0x12 | 0x13)
+    matches!(command, TEST | TESTV)
         && matches!(operator, 2 | 4)
         && base::get_or(rises, field, false)
 }
@@ -189,6 +190,6 @@ pub fn lasts(f: &[u8], at: usize, rises: &[bool; 8]) -> bool
         ages(f, command, place, rises)
     }) {
         Ok(_) => false,
-        Err(end) => base::byte_at(f, end) != 0x15,
+        Err(end) => base::byte_at(f, end) != GUARD,
     }
 }

@@ -5,7 +5,7 @@ use lib.ListN.{get_or}
 use Rattle.machine_code.specs.inner.Bytes.{width_of}
 use Rattle.machine_code.proofs.ClausesOnBytes.{clause-inside}
 use Rattle.machine_code.proofs.EventAlone.{width-most, clause-width}
-use Rattle.machine_code.proofs.GainingOnBytes.{left-start, left-next, left-done, gained-from}
+use Rattle.machine_code.proofs.GainingOnBytes.{left-next, left-done, gained-from}
 use Rattle.machine_code.proofs.Scene.gain_all.Goals as goal
 
 pub gain-requires : goal.gain-requires

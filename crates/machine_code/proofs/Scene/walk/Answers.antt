@@ -24,6 +24,8 @@ loop-w-preserved g c =
 
 pub returns-then-not-is_clause : goal.returns-then-not-is_clause
 returns-then-not-is_clause g c =
-    let s = c.args.self.now in
-    (walked_from s.f.now c.args.at s.c.now s.rises.now s.fields _ _ c.begin-w.ensures
-    (walking-done s.f.now s.c.now.values s.rises.now s.fields _ c.loop-w.w c.loop-w.invariant (sym c.is_clause.ensures ∙ c.if-not-is_clause.true)), search rules)
+    let s = c.args.self.now in (
+      walked_from s.f.now c.args.at s.c.now s.rises.now s.fields _ _ c.begin-w.ensures
+          (walking-done s.f.now s.c.now.values s.rises.now s.fields _ c.loop-w.w c.loop-w.invariant (sym c.is_clause.ensures ∙ c.if-not-is_clause.true)),
+      search rules,
+    )
