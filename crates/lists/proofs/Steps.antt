@@ -1,32 +1,31 @@
 -- What each function of the code computes, one branch at a time.
 use Prim.Native.Nat.{ℕ, zero, suc, ◌+◌, ◌-◌, ◌/◌, ◌%◌, ◌<◌, ◌≤◌}
 use mathlib.Core.Path.{◌≡◌, refl, ap, sym, ◌∙◌}
-use mathlib.Core.Bool.{Bool, true, false}
+use mathlib.Core.Bool.{true, false}
 use mathlib.Core.List.{List}
+use native.Mathlib.Numerals.{add-one}
 use native.Mathlib.Omega.{arith}
-use lib.ListN.{length, get_or, drop, set, drop_of_length-le, get_or-eq_default}
-use lib.Seq.{get_or-set_same, get_or-set_other}
-use lib.Dec.{eqb}
-use borrow.Author.Tests.{lt-ltb, le-ltb, le-leb, lt-leb, eq-eqb, ne_eqb, eqb-true, eqb-false}
+use lib.ListN.{length, get_or, drop, drop_of_length-le, get_or-eq_default}
+use borrow.Author.Tests.{lt-ltb, le-ltb, le-leb, lt-leb, eq-eqb, ne_eqb}
 use Rattle.base.proofs.Lists.{drop-next}
 use Rattle.event_log.specs.declared.Loaded.{Loaded}
 use Rattle.event_log.specs.inner.Loading.{loaded_at}
 use Rattle.machine_code.specs.inner.Bytes.{width_of, offset_of}
-use Rattle.lists.specs.inner.Words.{add_in, gather_in, gather_from, gather_step, entry_in, target_in, read_back, meets, new_in}
+use Rattle.lists.specs.inner.Words.{add_in, gather_in, gather_from, gather_step, entry_in, target_in, read_back, meets}
 
 -- the clause at a place
-module _ (f values : List ℕ) (at : ℕ) (l : List ℕ) (c o : ℕ) (command : c ≡ get_or f at 0) (operand : o ≡ get_or f (at + 2) 0) where
-  pub gather-adds : (b x : ℕ) → c ≡ 0x17 → 8 ≤ o → b ≡ get_or f (at + 1) 0 → x ≡ get_or values b 0 → add_in l (o - 8) x ≡ gather_in f values at l
+module _ (f values : List ℕ) (at : ℕ) (l : List ℕ) (o : ℕ) (operand : o ≡ get_or f (at + 2) 0) where
+  pub gather-adds : (b x : ℕ) → get_or f at 0 ≡ 0x17 → 8 ≤ o → b ≡ get_or f (at + 1) 0 → x ≡ get_or values b 0 → add_in l (o - 8) x ≡ gather_in f values at l
   unfolding gather_in
-  gather-adds b x h k p q = rw (← command, eq-eqb c 0x17 h, ← operand, le-leb 8 o k, ← p, ← q)
+  gather-adds b x h k p q = rw (eq-eqb (get_or f at 0) 0x17 h, ← operand, le-leb 8 o k, ← p, ← q)
 
-  pub gather-low : c ≡ 0x17 → o < 8 → l ≡ gather_in f values at l
+  pub gather-low : get_or f at 0 ≡ 0x17 → o < 8 → l ≡ gather_in f values at l
   unfolding gather_in
-  gather-low h k = rw (← command, eq-eqb c 0x17 h, ← operand, lt-leb 8 o k)
+  gather-low h k = rw (eq-eqb (get_or f at 0) 0x17 h, ← operand, lt-leb 8 o k)
 
-  pub gather-other : (c ≡ 0x17 → ⊥) → l ≡ gather_in f values at l
-  unfolding gather_in
-  gather-other h = rw (← command, ne_eqb c 0x17 h)
+pub gather-other : (f values : List ℕ) (at : ℕ) (l : List ℕ) → (get_or f at 0 ≡ 0x17 → ⊥) → l ≡ gather_in f values at l
+unfolding gather_in
+gather-other f values at l h = rw (ne_eqb (get_or f at 0) 0x17 h)
 
 -- What is left of the clauses of a step from a place on: with so much fuel, which the bytes left do not use up, it gives the whole.
 pub record Left (f values : List ℕ) (whole : List ℕ) (place : ℕ) (l : List ℕ) : Type 0 where
@@ -108,34 +107,21 @@ module _ (b places : List ℕ) (fields : ℕ) (f table : List ℕ) (state : ℕ)
   unfolding read_back
   back_done h = rw (drop_of_length-le words h)
 
--- the values of a list one after the other: before the i-th none is x
-pub meets-next : (l : List ℕ) (at n i x : ℕ) → i < n → (get_or l (at + i) 0 ≡ x → ⊥) → meets l (at + i) (n - i) x ≡ meets l (at + (i + 1)) (n - (i + 1)) x
+-- the values of a list one after the other, up to place n: before the i-th none is x
+pub meets-next : (l : List ℕ) (i n x : ℕ) → i < n → (get_or l i 0 ≡ x → ⊥) → meets l i (n - i) x ≡ meets l (i + 1) (n - (i + 1)) x
 unfolding meets
-meets-next l at n i x h ne =
+meets-next l i n x h ne =
     let e : n - i ≡ suc (n - (i + 1)) = omega arith in
-    let s : suc (at + i) ≡ at + (i + 1) = omega arith in
-    rw (e, ne_eqb (get_or l (at + i) 0) x ne, s)
+    rw (e, ne_eqb (get_or l i 0) x ne, add-one i)
 
-pub meets-here : (l : List ℕ) (at n i x : ℕ) → i < n → get_or l (at + i) 0 ≡ x → meets l (at + i) (n - i) x ≡ true
+pub meets-here : (l : List ℕ) (i n x : ℕ) → i < n → get_or l i 0 ≡ x → meets l i (n - i) x ≡ true
 unfolding meets
-meets-here l at n i x h e =
+meets-here l i n x h e =
     let q : n - i ≡ suc (n - (i + 1)) = omega arith in
-    rw (q, eq-eqb (get_or l (at + i) 0) x e)
+    rw (q, eq-eqb (get_or l i 0) x e)
 
-pub meets-end : (l : List ℕ) (at n i x : ℕ) → n ≤ i → meets l (at + i) (n - i) x ≡ false
+pub meets-end : (l : List ℕ) (i n x : ℕ) → n ≤ i → meets l i (n - i) x ≡ false
 unfolding meets
-meets-end l at n i x h =
+meets-end l i n x h =
     let q : n - i ≡ 0 = omega arith in
     rw q
-
--- the marks up to i are told, and one more
-pub fresh-next : (l values : List ℕ) (fresh : List Bool) (i : ℕ) (b : Bool) → i < length fresh
-    → ((j : ℕ) → j < i → get_or fresh j false ≡ new_in l (j / 8) (get_or values (j % 8) 0)) → b ≡ new_in l (i / 8) (get_or values (i % 8) 0)
-    → (j : ℕ) → j < i + 1 → get_or (set fresh i b) j false ≡ new_in l (j / 8) (get_or values (j % 8) 0)
-fresh-next l values fresh i b h k e j m = go (eqb j i) refl
-  where
-    go : (t : Bool) → eqb j i ≡ t → get_or (set fresh i b) j false ≡ new_in l (j / 8) (get_or values (j % 8) 0)
-    go true q =
-        let p : j ≡ i = eqb-true j i q in
-        rw p (get_or-set_same fresh i b false h ∙ e)
-    go false q = let ne = eqb-false j i q in get_or-set_other fresh i j b false ne ∙ k j (omega arith)

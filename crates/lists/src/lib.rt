@@ -1,22 +1,21 @@
 // The lists of a thread, read back from its trail: a slot holds no list, but what a trail's steps gathered follows from the log and the formula.
 #![tactic(auto)]
 
-ghost use Rattle.std.specs.Prelude.{◌≡◌, false, ◌+◌, ◌*◌, ◌/◌, ◌%◌, ◌<◌, min, length, get_or, take, replicate};
-ghost use Rattle.lists.specs.inner.Words.{add_in, gather_in, gather_step, entry_in, target_in, read_back, meets, new_in, FreshIs};
+ghost use Rattle.std.specs.Prelude.{◌≡◌, ◌<◌, min, length, take, replicate};
+ghost use Rattle.lists.specs.inner.Words.{add_in, gather_in, gather_step, entry_in, target_in, read_back, new_in, FreshIs};
 
 use machine_code::marks::width;
 use machine_code::steps::step_offset;
 
-// Adds a value to list v: value i of list v stands at v * 32 + i, the number of its values at 128 + v. A full list stays.
+// Adds a value to list v: value i of list v stands at v * 32 + i, the number of its values at 128 + v. A full list stays. The four
+// lists stay one array of words with their lengths at its end: `threads` compares the lists of two threads as one part.
 fn add(lists: &mut [u32; 132], v: usize, x: u32)
     ensures { lists.new ≡ add_in lists.old v x }
 {
-    if v < 4 {
+    if v < 4 && lists[128 + v] < 32 {
         let n = lists[128 + v];
-        if n < 32 {
-            lists[v * 32 + (n as usize)] = x;
-            lists[128 + v] = n + 1;
-        }
+        lists[v * 32 + n as usize] = x;
+        lists[128 + v] = n + 1;
     }
 }
 
@@ -25,13 +24,10 @@ fn gather(lists: &mut [u32; 132], f: &[u8], at: usize, values: &[u32])
     requires { at < length f.now }
     ensures { lists.new ≡ gather_in f.now values.now at lists.old }
 {
-    let command = base::byte_at(f, at);
     let operand = base::byte_at(f, at + 2);
-    if command == 0x17 {
-        if 8 <= operand {
-            let x = guard_code::guard::value_of(values, base::byte_at(f, at + 1));
-            add(lists, (operand - 8) as usize, x);
-        }
+    if f[at] == 0x17 && 8 <= operand {
+        let x = base::get_or(values, base::byte_at(f, at + 1) as usize, 0);
+        add(lists, (operand - 8) as usize, x);
     }
 }
 
@@ -42,20 +38,13 @@ fn gather_step(lists: &mut [u32; 132], f: &[u8], at: usize, values: &[u32])
 {
     let mut place = at + 2;
     while place < f.len() {
-        let taken = width(base::byte_at(f, place));
+        let taken = width(u32::from(f[place]));
         if taken == 0 {
             return;
         }
         gather(lists, f, place, values);
-        place = place + taken;
+        place += taken;
     }
-}
-
-// An entry of a table, 0 past its end.
-pub fn entry(places: &[usize], i: usize) -> usize
-    ensures { result ≡ get_or places.now i 0 }
-{
-    if i < places.len() { places[i] } else { 0 }
 }
 
 // What the step at an offset gathered on the event with a number; at 0 there is no step.
@@ -70,14 +59,9 @@ fn gather_entry(
 )
     ensures { lists.new ≡ entry_in l.now places.now fields f.now at event lists.old }
 {
-    if at == 0 {
-        return;
-    }
-    if at < f.len() {
-        let loaded = event_log_code::event_at(l, fields, entry(places, event));
-        let event = loaded.event;
-        let values = event.values;
-        gather_step(lists, f, at, &values);
+    if at != 0 && at < f.len() {
+        let loaded = event_log_code::event_at(l, fields, base::get_or(places, event, 0));
+        gather_step(lists, f, at, &loaded.event.values);
     }
 }
 
@@ -85,29 +69,14 @@ fn gather_entry(
 fn state_after(f: &[u8], at: usize, state: u32) -> u32
     ensures { result ≡ target_in f.now at state }
 {
-    if at == 0 {
-        return state;
+    if at != 0 && at < f.len() {
+        base::byte_at(f, at + 1)
+    } else {
+        state
     }
-    if at < f.len() {
-        return base::byte_at(f, at + 1);
-    }
-    state
 }
 
-// The event of a trail word, event * 8 + step number, and the step number.
-fn event_of(word: u32) -> usize
-    ensures { result ≡ word / 8 }
-{
-    (word / 8) as usize
-}
-
-fn number_of(word: u32) -> usize
-    ensures { result ≡ word % 8 }
-{
-    (word % 8) as usize
-}
-
-// The lists gathered along a trail of so many steps: four lists of at most 32 values.
+// The lists gathered along a trail of so many steps: four lists of at most 32 values. A word of the trail is event * 8 + step number.
 pub fn lists_of(
     l: &[u8],
     places: &[usize],
@@ -119,49 +88,28 @@ pub fn lists_of(
 ) -> [u32; 132]
     ensures { result ≡ read_back l.now places.now fields f.now table.now 0 (replicate 132 0) (take (min steps 32) trail) }
 {
-    let mut lists = [0u32; 132];
-    let count = base::lower(steps, 32);
-    let mut state: u32 = 0;
-    let mut i: usize = 0;
-    while i < count {
-        let word = trail[i];
-        let at = step_offset(table, state, number_of(word));
-        gather_entry(&mut lists, l, places, fields, f, at, event_of(word));
+    let mut lists = [0; 132];
+    let mut state = 0;
+    for word in &trail[..steps.min(32)] {
+        let at = step_offset(table, state, (word % 8) as usize);
+        gather_entry(&mut lists, l, places, fields, f, at, (word / 8) as usize);
         state = state_after(f, at, state);
-        i += 1;
     }
     lists
 }
 
-// A word of the lists, 0 past their end.
-fn word_at(lists: &[u32], i: usize) -> u32
-    ensures { result ≡ get_or lists.now i 0 }
-{
-    if i < lists.len() { lists[i] } else { 0 }
-}
-
-// Whether one of n values from a place on is x.
-fn is_met(lists: &[u32], at: usize, n: usize, x: u32) -> bool
-    requires { (at < 128) × (n < 4294967296) }
-    ensures { result ≡ meets lists.now at n x }
-{
-    let mut i: usize = 0;
-    while i < n {
-        if word_at(lists, at + i) == x {
-            return true;
-        }
-        i += 1;
-    }
-    false
-}
-
-// Whether no value of list v is x.
-fn is_new(lists: &[u32], v: usize, x: u32) -> bool
+// Whether no value of list v is x; a value past the words is 0.
+fn is_new(lists: &[u32; 132], v: usize, x: u32) -> bool
     requires { v < 4 }
     ensures { result ≡ new_in lists.now v x }
 {
-    let n = word_at(lists, 128 + v) as usize;
-    !is_met(lists, v * 32, n, x)
+    let first = v * 32;
+    for i in first..first + lists[128 + v] as usize {
+        if base::get_or(lists, i, 0) == x {
+            return false;
+        }
+    }
+    true
 }
 
 // For each list and each of 8 fields, at v * 8 + f: whether no value of list v is the field's.
@@ -169,10 +117,8 @@ pub fn fresh_of(lists: [u32; 132], values: [u32; 8]) -> [bool; 32]
     ensures { FreshIs lists values result }
 {
     let mut fresh = [true; 32];
-    let mut i: usize = 0;
-    while i < 32 {
+    for i in 0..32 {
         fresh[i] = is_new(&lists, i / 8, values[i % 8]);
-        i += 1;
     }
     fresh
 }

@@ -93,8 +93,8 @@ fn offset(slot: usize, half: usize) -> usize
     slot * 192 + half * 96
 }
 
-// The words of one half of a slot. Slot and half stay two numbers here and below, since callers count slots and change halves: a
-// struct of both would be built anew at each call.
+// The words of one half of a slot. Slot and half stay two numbers, also where their bounds are asked: callers count slots and change
+// halves, and would build a struct of both anew at each call.
 fn half_of(work: &[u32], slot: usize, half: usize) -> &[u32]
     requires { (slot * 192 + 192 ≤ length work.now) × (half < 2) }
     ensures words { result.now ≡ take 96 (drop (place half slot) work.now) }
@@ -176,7 +176,8 @@ fn same_at(part: &[u32], c: &Configuration) -> bool
         && words_at(part, 33) == c.tallies
 }
 
-// Compares two trails by a key of each word, at the first words whose keys differ.
+// Compares two trails by a key of each word, at the first words whose keys differ. A loop, since `Iterator::cmp` over the keys takes
+// twice the instructions.
 fn compared<Key: Fn(u32) -> u32>(a: &[u32], b: &[u32], key: Key) -> Ordering
     requires { (x : _) → Key.pre key x }
     ensures { (k : ℕ → ℕ) → Computes (Key.post key) k → result ≡ side_of (lex (map k a.now) (map k b.now)) }

@@ -1,23 +1,22 @@
 -- `lists::gather_entry` meets its contract: by whether there is a step.
-use mathlib.Core.Path.{◌∙◌}
+use Rattle.std.proofs.Common.{◌∙◌}
 use Rattle.lists.proofs.Steps.{entry-none, entry_past, entry-there}
 use Rattle.lists.proofs.gather_entry.Goals as goal
-
-pub returns-then-at-eq0 : goal.returns-then-at-eq0
-returns-then-at-eq0 c =
-    let a = c.args in
-    entry-none a.l.now a.places.now a.fields a.f.now a.at a.event a.lists.now c.if-at-eq0.true
+use Rattle.lists.proofs.gather_entry.Goals.{else-at-ne0-via-then-at-ne0+else-at-f, else-at-ne0-via-else-at-ne0}
 
 pub returns-then-at-f : goal.returns-then-at-f
 returns-then-at-f c =
     let a = c.args in
     let e = c.event_at-loaded in
     c.gather_step.ensures
-    ∙ entry-there a.l.now a.places.now a.fields a.f.now a.at a.event a.lists.now c.if-at-eq0.false
-    c.if-at-f.true
-    c.entry.result e.result c.entry.ensures e.ensures
+    ∙ entry-there a.l.now a.places.now a.fields a.f.now a.at a.event a.lists.now c.if-at-ne0.true c.if-at-f.true c.get_or.result e.result
+    c.get_or.ensures e.ensures
 
-pub returns-else-at-f : goal.returns-else-at-f
-returns-else-at-f c =
+pub returns-else-at-ne0 : goal.returns-else-at-ne0
+returns-else-at-ne0 c =
     let a = c.args in
-    entry_past a.l.now a.places.now a.fields a.f.now a.at a.event a.lists.now c.if-at-eq0.false c.if-at-f.false
+    elim c.else-at-ne0.branch [
+      | else-at-ne0-via-then-at-ne0+else-at-f w ↦
+          entry_past a.l.now a.places.now a.fields a.f.now a.at a.event a.lists.now w.if-at-ne0.true w.if-at-f.false
+      | else-at-ne0-via-else-at-ne0 w ↦ entry-none a.l.now a.places.now a.fields a.f.now a.at a.event a.lists.now w.if-at-ne0.false
+    ]

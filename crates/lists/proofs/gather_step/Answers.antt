@@ -19,7 +19,7 @@ returns-then-taken-eq0 c =
     let a = c.args in
     let l = c.loop-place in
     let e : width_of (get_or a.f.now l.place 0) ≡ 0 =
-    sym (c.width-taken.ensures ∙ ap width_of c.byte_at.ensures.0) ∙ c.if-taken-eq0.true in
+    sym (c.width-taken.ensures ∙ ap width_of c.from.ensures) ∙ c.if-taken-eq0.true in
     left-done a.f.now a.values.now (gather_step a.f.now a.values.now a.at a.lists.now) l.place _ l.invariant e
 
 pub overflow_add-place-in-loop-place : goal.overflow_add-place-in-loop-place
@@ -27,7 +27,7 @@ overflow_add-place-in-loop-place c =
     let w = c.width-taken in
     omega (
       arith,
-      width-most c.byte_at.result w.result w.ensures,
+      width-most c.from.result w.result w.ensures,
       c.loop-place-test.true,
       c.well_formed,
     )
@@ -39,7 +39,7 @@ loop-place-preserved c =
     let w = c.width-taken in
     let f = a.f.now in
     let v = a.values.now in
-    let e : w.result ≡ width_of (get_or f l.place 0) = w.ensures ∙ ap width_of c.byte_at.ensures.0 in
+    let e : w.result ≡ width_of (get_or f l.place 0) = w.ensures ∙ ap width_of c.from.ensures in
     subst (λ z. Left f v (gather_step f v a.at a.lists.now) (l.place + w.result) z) (sym c.gather.ensures)
     (left-next f v (gather_step f v a.at a.lists.now) l.place _ l.invariant w.result e c.if-taken-eq0.false
     c.loop-place-test.true)
