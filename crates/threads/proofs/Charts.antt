@@ -6,9 +6,10 @@ use mathlib.Core.Bool.{Bool, true, false, cond}
 use mathlib.Core.List.{List, map}
 use mathlib.Core.Option.{Option, none, some}
 use native.Mathlib.Omega.{arith}
+use Rattle.std.specs.Prelude.{Option as Maybe, Some, None}
 use native.Mathlib.Decide.{dec_lt}
 use lib.ListN.{length, get_or, get_or-eq_default, get_or-map}
-use Rattle.base.specs.Lists.{pad}
+use Rattle.base.specs.Lists.{pad, some_if}
 use Rattle.base.proofs.Lists.{length-pad, get_d-pad}
 use Rattle.event_log.specs.Log.{Log, Kind, plain, rising, or_zero, field, event_at, stretch_at}
 use Rattle.event_log.specs.Arrays.{in_event, in_latest}
@@ -27,14 +28,13 @@ use Rattle.machine.specs.inner.Along.{gathered}
 use Rattle.slots.specs.inner.Threads.{trail_of}
 use Rattle.machine.proofs.Walk.{fire-fields}
 use Rattle.slots.specs.declared.Thread.{Thread}
-use Rattle.machine_code.specs.declared.Fired.{Fired}
+use Rattle.machine_code.specs.declared.Configuration.{Configuration}
 use Rattle.threads.specs.declared.Rules.{Rules}
 use Rattle.threads.specs.declared.Moment.{Moment}
-use Rattle.threads.specs.declared.Move.{Move}
 use Rattle.threads.specs.inner.Calls.{FiredBy}
 use Rattle.machine.specs.Expiry.{is_rising, rises}
 use Rattle.machine.specs.Machine.{fire_by, fire_at}
-use Rattle.machine_code.specs.inner.Bytes.{offset_of, config_of, fired}
+use Rattle.machine_code.specs.inner.Bytes.{Firing, offset_of, config_of, fired}
 use Rattle.machine_code.proofs.FiringOnBytes.{StepAt, Ready, Carries, ready, fire-encode}
 use Rattle.machine_code.proofs.SameMachine.{StepThere, Charted}
 use Rattle.machine_code.proofs.Offsets as Lookup
@@ -88,40 +88,39 @@ module _ (g : Log) (fm : Formula) (f table : List ℕ) (rules : Rules) (s : Sett
 pub ready_of : (g : Log) (fm : Formula) (t : Thread) → Fit g fm t → length fm.states ≤ 16 → Ready t.config
 ready_of g fm t h m = ready (length fm.states) (gathered g fm (trail_of t)) t.config h.valid m (omega (arith, h.weight, h.most))
 
+-- the thread in another configuration, if there is one
+abbrev pub with_config : Thread → Maybe Configuration → Maybe Thread
+with_config t None = None
+with_config t (Some c) = Some (record { config = c; steps = t.steps; trail = t.trail })
+
 -- what a thread's step leaves, from what the code answers
 module _ (g : Log) (fm : Formula) (f table : List ℕ) (rules : Rules) (s : Setting g fm f table rules) (m : Moment) (l : Loads g m) (t : Thread) (k : ℕ)
     (h : k < 8) (fresh : List Bool) (c : Carries (length g.fields) (gathered g fm (trail_of t)) t.config (in_event m.event) fresh) where
-  abbrev answer : Fired
+  abbrev answer : Firing
   answer = fired f (offset_of table t.config.state k) t.config fresh (in_event m.event)
 
   -- one that it has fires as the code says, and leaves what the code leaves
-  pub fires-some : Ready t.config → (offset_of table t.config.state k ≡ 0 → ⊥) → (r : Move)
-      → r ≡ record { fires = answer.fires; thread = record { config = answer.config; steps = t.steps; trail = t.trail } }
-      → FiredBy (fire_at g fm (conf g fm t) m.number k) t r
+  pub fires-some : Ready t.config → (offset_of table t.config.state k ≡ 0 → ⊥) → (r : Maybe Configuration) → r ≡ some_if answer.fires answer.config
+      → FiredBy (fire_at g fm (conf g fm t) m.number k) t (with_config t r)
   unfolding fire_at fire leave
-  fires-some ready z r e = go (step_at fm t.config.state k) ((charted g fm f table rules s).stands t.config.state k h)
+  fires-some ready z r e =
+      subst (λ o. FiredBy (fire_at g fm (conf g fm t) m.number k) t (with_config t o)) (sym e) (go (step_at fm t.config.state k) ((charted g fm f table rules s).stands t.config.state k h))
     where
       left : (x : Step) → StepAt (length g.fields) f (offset_of table t.config.state k) x → (b : Bool) → answer.fires ≡ b
-          → FiredBy (cond b (some (leave (conf g fm t) x (in_event m.event))) none) t r
+          → FiredBy (cond b (some (leave (conf g fm t) x (in_event m.event))) none) t (with_config t (some_if b answer.config))
       left x p true q =
           let w = fire-encode (length g.fields) f (offset_of table t.config.state k) (gathered g fm (trail_of t)) t.config x fresh
           (in_event m.event) p ready c in
-          record {
-            fires = ap (λ (y : Move). y.fires) e ∙ q;
-            leaves = ap (λ (y : Move). config_of (gather_all (gathered g fm (trail_of t)) (in_event m.event) x.clauses) y.thread.config) e
-                ∙ w.leaves-as q;
-            same_steps = ap (λ (y : Move). y.thread.steps) e;
-            same_trail = ap (λ (y : Move). y.thread.trail) e;
-            tallied = ap (λ (y : Move). y.thread.config.tallies) e ∙ w.tallied q;
-          }
-      left x p false q = ap (λ (y : Move). y.fires) e ∙ q
+          record { leaves = w.leaves-as q; same_steps = refl; same_trail = refl; tallied = w.tallied q }
+      left x p false q = refl
 
       go : (o : Option Step) → StepThere (length g.fields) f (offset_of table t.config.state k) o
-          → FiredBy (fire_by o (conf g fm t) (event_at g m.number).values) t r
+          → FiredBy (fire_by o (conf g fm t) (event_at g m.number).values) t (with_config t (some_if answer.fires answer.config))
       go none p = absurd (z p)
       go (some x) p =
           let w = fire-encode (length g.fields) f (offset_of table t.config.state k) (gathered g fm (trail_of t)) t.config x fresh
           (in_event m.event) p.1 ready c in
-          subst (λ (o : Option Config). FiredBy o t r)
+          subst (λ (o : Option Config). FiredBy o t (with_config t (some_if answer.fires answer.config)))
           (fire-fields (in_event m.event) (event_at g m.number).values (event-fields g fm f table rules s m l) (conf g fm t) x)
-          (left x p.1 (fires (conf g fm t) x (in_event m.event)) w.fires-as)
+          (subst (λ b. FiredBy (cond (fires (conf g fm t) x (in_event m.event)) (some (leave (conf g fm t) x (in_event m.event))) none) t (with_config t (some_if b answer.config)))
+          (sym w.fires-as) (left x p.1 (fires (conf g fm t) x (in_event m.event)) w.fires-as))

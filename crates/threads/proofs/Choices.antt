@@ -5,6 +5,7 @@ use mathlib.Core.Bool.{Bool, true, false, ◌&&◌, and-true, true≢false, fals
 use mathlib.Core.List.{[], ◌∷◌, cons≢nil}
 use mathlib.Core.Option.{Option, none, some}
 use native.Mathlib.Omega.{arith}
+use Rattle.std.specs.Prelude.{Option as Maybe, Some, None}
 use lib.Dec.{ltb}
 use Rattle.event_log.specs.Log.{Log}
 use Rattle.formula.specs.Formula.{Formula}
@@ -19,7 +20,8 @@ use Rattle.slots.specs.inner.Threads.{trail_of}
 use Rattle.threads.specs.inner.Setting.{Fit, conf, thread}
 use Rattle.machine_code.proofs.SameMachine as Code
 use Rattle.machine_code.proofs.SameMachine.{is_fired}
-use Rattle.threads.specs.inner.Calls.{Fires, Lowest, NoEnding, Chosen}
+use Rattle.threads.specs.declared.scene.Scene.{Scene}
+use Rattle.threads.specs.inner.Calls.{Fires, FirstTakenIs, Lowest, LowestByIs, NoEnding, Chosen}
 use Rattle.threads.proofs.Below.{below_next}
 use Rattle.threads.proofs.Steps.{begun-steps}
 
@@ -40,11 +42,14 @@ module _ (g : Log) (fm : Formula) (t : Thread) (n : ℕ) where
       by none q x = absurd (false≢true x)
       by (some d) q x = record { left = d; is = q }
 
-  pub lowest-found : (k : ℕ) → Code.Lowest (λ j. is_fired (fire_at g fm (conf g fm t) n j)) k → Lowest g fm (conf g fm t) n k
-  lowest-found k low = record { quiet = λ j l. silent j (low.before j l); fires = λ l. firing k (low.here l) }
+  pub lowest-found : (k : ℕ) → Code.Lowest (λ j. is_fired (fire_at g fm (conf g fm t) n j)) k → k < 8 → Lowest g fm (conf g fm t) n (Some k)
+  lowest-found k low h = (λ j l. silent j (low.before j l), firing k (low.here h))
+
+  pub lowest-none : (k : ℕ) → Code.Lowest (λ j. is_fired (fire_at g fm (conf g fm t) n j)) k → 8 ≤ k → Lowest g fm (conf g fm t) n None
+  lowest-none k low h j l = silent j (low.before j (omega (arith, l, h)))
 
   -- in a committed state, where no move ends a run: steps before k that end runs, where they fire, do not fire
-  quiet-before : committed fm (conf g fm t) ≡ true → NoEnding g fm t n → (k : ℕ) → k ≤ 8
+  pub quiet-before : committed fm (conf g fm t) ≡ true → NoEnding g fm t n → (k : ℕ) → k ≤ 8
       → ((j : ℕ) → j < k → (d : Config) → fire_at g fm (conf g fm t) n j ≡ some d → final fm d ≡ true) → (j : ℕ) → j < k → fire_at g fm (conf g fm t) n j ≡ none
   unfolding keep
   quiet-before e o zero l h = λ j b. absurd (omega (arith, b))
@@ -62,12 +67,6 @@ module _ (g : Log) (fm : Formula) (t : Thread) (n : ℕ) where
       go : ((j : ℕ) → j < k → fire_at g fm (conf g fm t) n j ≡ none) → (j : ℕ) → j < suc k → fire_at g fm (conf g fm t) n j ≡ none
       go before j b =
           below_next (λ z. fire_at g fm (conf g fm t) n z ≡ none) k before (here before (fire_at g fm (conf g fm t) n k) refl) j (omega (arith, b))
-
-  -- the lowest of the steps that end no run is the lowest of all
-  pub lowest-open : committed fm (conf g fm t) ≡ true → NoEnding g fm t n → (k : ℕ) → k ≤ 8
-      → ((j : ℕ) → j < k → (d : Config) → fire_at g fm (conf g fm t) n j ≡ some d → final fm d ≡ true) → (k < 8 → Fires g fm (conf g fm t) n k)
-      → Lowest g fm (conf g fm t) n k
-  lowest-open e o k l h f = record { quiet = quiet-before e o k l h; fires = f }
 
   -- ---- what may be taken
 
@@ -99,14 +98,25 @@ module _ (g : Log) (fm : Formula) (t : Thread) (n : ℕ) where
         passes true = refl
         passes false = refl
 
-    pub lowest-choice : (k : ℕ) → committed fm (conf g fm t) ≡ true → k < 8 → Lowest g fm (conf g fm t) n k
+    pub lowest-choice : (k : ℕ) → committed fm (conf g fm t) ≡ true → k < 8 → Lowest g fm (conf g fm t) n (Some k)
         → Chosen g fm t n (record { from = k; to = k + 1; stays = false })
     unfolding Runs.firing
     lowest-choice k e l low =
-        let x = low.fires l in
+        let x = low.1 in
         let one : k + 1 - k ≡ 1 = omega arith in
         record {
-          moves_are = moves-lowest (machine g fm) n (thread g fm t) k x.left e l x.is low.quiet
+          moves_are = moves-lowest (machine g fm) n (thread g fm t) k x.left e l x.is low.0
               ∙ sym (firing-fires (machine g fm) (thread g fm t) n k (k + 1 - k) 0 x.left one x.is);
-          stays_is = sym (leaves (machine g fm) n (thread g fm t) k x.left e l x.is low.quiet);
+          stays_is = sym (leaves (machine g fm) n (thread g fm t) k x.left e l x.is low.0);
         }
+
+-- in a committed state, where no move ends a run, the lowest of the steps that end no run is the lowest of all
+pub lowest-open : (s : Scene) (t : Thread) (r : Maybe ℕ) → FirstTakenIs s t false r → LowestByIs s t true r
+lowest-open s t None x = (tt, λ g fm stands w e o. quiet-before g fm t s.moment.number e (o refl) 8 (omega arith) (x g fm stands w))
+lowest-open s t (Some k) x = (
+  x.0,
+  λ g fm stands w e o. (
+    quiet-before g fm t s.moment.number e (o refl) k (omega (arith, x.0)) (x.1 g fm stands w),
+    x.2 g fm stands w,
+  ),
+)

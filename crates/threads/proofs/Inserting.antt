@@ -15,7 +15,7 @@ use Rattle.runs.specs.inner.Threads.{place, insert}
 use Rattle.machine.specs.Machine.{machine}
 use Rattle.slots.specs.declared.Thread.{Thread}
 use Rattle.slots.specs.inner.Threads.{trail_of, same_words, comes_after, replaced, lesser_thread, placed, insert_thread}
-use Rattle.slots.specs.inner.Words.{thread_at, FoundFrom}
+use Rattle.slots.specs.inner.Words.{thread_at, Differ}
 use Rattle.slots.specs.inner.Words as Slots
 use Rattle.slots.proofs.ByPlace.{ranges}
 use Rattle.machine.specs.inner.Along.{gathered}
@@ -57,16 +57,14 @@ module _ (g : Log) (fm : Formula) (half count : ℕ) (l : List ℕ) (k : Kept g 
   fit_at i h = (kept_at g fm half count l i (thread_at l (Slots.place half i)) k h refl).fit
 
   -- those whose words differ do not
-  pub missed-words : (from r : ℕ) → FoundFrom half count from b.config l r → Missed from r
-  missed-words from r x i h m =
-      same-is g fm (thread_at l (Slots.place half i)) b (fit_at i (omega (arith, x.most))) w
-      ∙ ap (λ z. z && same_list (same_list eqb) (gathered g fm (trail_of (thread_at l (Slots.place half i)))) (gathered g fm (trail_of b))) (x.missed i h m)
+  pub missed-words : (from to : ℕ) → to ≤ count → Differ half from to b.config l → Missed from to
+  missed-words from to most x i h m =
+      same-is g fm (thread_at l (Slots.place half i)) b (fit_at i (omega arith)) w
+      ∙ ap (λ z. z && same_list (same_list eqb) (gathered g fm (trail_of (thread_at l (Slots.place half i)))) (gathered g fm (trail_of b))) (x i h m)
 
-  -- nor does thread j, nor those behind it whose words differ
-  pub missed_more : (j r : ℕ) → Missed 0 j → same_as g fm b (thread_at l (Slots.place half j)) ≡ false → FoundFrom half count (j + 1) b.config l r → Missed 0 r
-  missed_more j r before e x =
-      let P : ℕ → Type 0 = λ i. same_as g fm b (thread_at l (Slots.place half i)) ≡ false in
-      ranges P 0 (j + 1) r (ranges P 0 j (j + 1) before (λ i h m. subst P (omega (arith, h, m)) e)) (missed-words (j + 1) r x)
+  -- nor do those before a place, and those from there on whose words differ
+  pub missed_more : (from to : ℕ) → to ≤ count → Missed 0 from → Differ half from to b.config l → Missed 0 to
+  missed_more from to most before x = ranges (λ i. same_as g fm b (thread_at l (Slots.place half i)) ≡ false) 0 from to before (missed-words from to most x)
 
   -- where the words are the same, the lists decide
   pub same-by-lists : (j : ℕ) (a : Thread) (r : Bool) → j < count → a ≡ thread_at l (Slots.place half j)

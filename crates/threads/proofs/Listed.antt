@@ -3,6 +3,7 @@ use Prim.Native.Nat.{ℕ, zero, suc, ◌+◌, ◌-◌, ◌<◌, ◌≤◌}
 use mathlib.Core.Path.{◌≡◌, refl, ap, sym, ◌∙◌, subst}
 use mathlib.Core.List.{List, [], ◌∷◌, ◌++◌, nil≢cons, cons≢nil, head-eq_of_cons-eq}
 use native.Mathlib.Omega.{arith}
+use Rattle.std.specs.Prelude.{Option as Maybe}
 use lib.ListN.{length, get_or, drop, length-map, get_or-map, drop_of_length-le}
 use lib.Seq.{drop-cons, drop-nil}
 use Rattle.base.proofs.Lists.{All-at}
@@ -31,7 +32,7 @@ kept_at g fm half count l j t k h e =
     }
 
 -- the list of one half stays while the other is filled: so does each of its threads
-pub thread-stays : (half slots count : ℕ) (before after : List ℕ) (r j : ℕ) (t : Thread) → half < 2 → count ≤ slots → Grown (1 - half) slots before after r
+pub thread-stays : (half slots count : ℕ) (before after : List ℕ) (r : Maybe ℕ) (j : ℕ) (t : Thread) → half < 2 → count ≤ slots → Grown (1 - half) slots before after r
     → j < count → t ≡ thread_at after (place half j) → t ≡ thread_at before (place half j)
 thread-stays half slots count before after r j t two most w h e =
     let back : 1 - (1 - half) ≡ half = omega arith in

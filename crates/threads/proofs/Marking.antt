@@ -2,7 +2,7 @@
 use Rattle.event_log.specs.Arrays.{in_event, in_latest}
 use Prim.Native.Nat.{ℕ, ◌+◌, ◌<◌, ◌≤◌}
 use mathlib.Core.Path.{◌≡◌, refl, sym, subst, ◌∙◌}
-use mathlib.Core.Bool.{Bool, true, false, cond}
+use mathlib.Core.Bool.{Bool, true, false}
 use mathlib.Core.List.{List}
 use native.Mathlib.Omega.{arith}
 use borrow.Author.Tests.{eqb-true, eqb-false}
@@ -36,56 +36,42 @@ module _ (f steps : List ℕ) (rises : List Bool) (m : Moment) (table : List ℕ
       }
 
   module _ (i : ℕ) (h : i < 128) (e : EventTable f steps rises m table) where
-    pub barred-more : (b : Bool) → (b ≡ true → (fresh : List Bool) (c : Configuration) → (fired f (get_or steps i 0) c fresh (in_event m.event)).fires ≡ false)
-        → EventTable f steps rises m (set table i (cond b 0 (get_or table i 0)))
-    barred-more b q =
+    pub barred-more : ((fresh : List Bool) (c : Configuration) → (fired f (get_or steps i 0) c fresh (in_event m.event)).fires ≡ false)
+        → EventTable f steps rises m (set table i 0)
+    barred-more q =
         record {
-          sized = length-set table i (cond b 0 (get_or table i 0)) ∙ e.sized;
+          sized = length-set table i 0 ∙ e.sized;
           fires = λ j l. by j l (eqb j i) refl;
           lapses = λ j l. subst (Lasting f rises (in_latest m.latest) (get_or steps j 0))
-              (sym (get_or-set_other table i (128 + j) (cond b 0 (get_or table i 0)) 0 (λ z. omega (arith, z)))) (e.lapses j l);
-          plain = λ j l. get_or-set_other table i (256 + j) (cond b 0 (get_or table i 0)) 0 (λ z. omega (arith, z)) ∙ e.plain j l;
+              (sym (get_or-set_other table i (128 + j) 0 0 (λ z. omega (arith, z)))) (e.lapses j l);
+          plain = λ j l. get_or-set_other table i (256 + j) 0 0 (λ z. omega (arith, z)) ∙ e.plain j l;
         }
       where
-        here : (z : Bool) → (z ≡ true → (fresh : List Bool) (c : Configuration) → (fired f (get_or steps i 0) c fresh (in_event m.event)).fires ≡ false)
-            → Firing f (in_event m.event) (get_or steps i 0) (cond z 0 (get_or table i 0))
-        here true r = barred refl (r refl)
-        here false r = e.fires i h
-
-        by : (j : ℕ) → j < 128 → (z : Bool) → eqb j i ≡ z → Firing f (in_event m.event) (get_or steps j 0) (get_or (set table i (cond b 0 (get_or table i 0))) j 0)
+        by : (j : ℕ) → j < 128 → (z : Bool) → eqb j i ≡ z → Firing f (in_event m.event) (get_or steps j 0) (get_or (set table i 0) j 0)
         by j l true z =
-            subst (λ k. Firing f (in_event m.event) (get_or steps k 0) (get_or (set table i (cond b 0 (get_or table i 0))) k 0)) (sym (eqb-true j i z))
-            (subst (Firing f (in_event m.event) (get_or steps i 0)) (sym (get_or-set_same table i (cond b 0 (get_or table i 0)) 0 (omega (arith, e.sized))))
-            (here b q))
-        by j l false z = subst (Firing f (in_event m.event) (get_or steps j 0)) (sym (get_or-set_other table i j (cond b 0 (get_or table i 0)) 0 (eqb-false j i z)))
-            (e.fires j l)
+            subst (λ k. Firing f (in_event m.event) (get_or steps k 0) (get_or (set table i 0) k 0)) (sym (eqb-true j i z))
+            (barred (get_or-set_same table i 0 0 (omega (arith, e.sized))) q)
+        by j l false z = subst (Firing f (in_event m.event) (get_or steps j 0)) (sym (get_or-set_other table i j 0 0 (eqb-false j i z))) (e.fires j l)
 
-    pub due-more : (b : Bool) → (b ≡ true → (fresh : List Bool) (c : Configuration) → lapsed f (get_or steps i 0) c fresh rises (in_latest m.latest) ≡ true)
-        → EventTable f steps rises m (set table (128 + i) (cond b 0 (get_or table (128 + i) 0)))
-    due-more b q =
+    pub due-more : ((fresh : List Bool) (c : Configuration) → lapsed f (get_or steps i 0) c fresh rises (in_latest m.latest) ≡ true)
+        → EventTable f steps rises m (set table (128 + i) 0)
+    due-more q =
         record {
-          sized = length-set table (128 + i) (cond b 0 (get_or table (128 + i) 0)) ∙ e.sized;
+          sized = length-set table (128 + i) 0 ∙ e.sized;
           fires = λ j l. subst (Firing f (in_event m.event) (get_or steps j 0))
-              (sym (get_or-set_other table (128 + i) j (cond b 0 (get_or table (128 + i) 0)) 0 (λ z. omega (arith, z)))) (e.fires j l);
+              (sym (get_or-set_other table (128 + i) j 0 0 (λ z. omega (arith, z)))) (e.fires j l);
           lapses = λ j l. by j l (eqb j i) refl;
-          plain = λ j l. get_or-set_other table (128 + i) (256 + j) (cond b 0 (get_or table (128 + i) 0)) 0 (λ z. omega (arith, z)) ∙ e.plain j l;
+          plain = λ j l. get_or-set_other table (128 + i) (256 + j) 0 0 (λ z. omega (arith, z)) ∙ e.plain j l;
         }
       where
-        here : (z : Bool) → (z ≡ true → (fresh : List Bool) (c : Configuration) → lapsed f (get_or steps i 0) c fresh rises (in_latest m.latest) ≡ true)
-            → Lasting f rises (in_latest m.latest) (get_or steps i 0) (cond z 0 (get_or table (128 + i) 0))
-        here true r = due refl (r refl)
-        here false r = e.lapses i h
-
         by : (j : ℕ) → j < 128 → (z : Bool) → eqb j i ≡ z
-            → Lasting f rises (in_latest m.latest) (get_or steps j 0) (get_or (set table (128 + i) (cond b 0 (get_or table (128 + i) 0))) (128 + j) 0)
+            → Lasting f rises (in_latest m.latest) (get_or steps j 0) (get_or (set table (128 + i) 0) (128 + j) 0)
         by j l true z =
-            subst (λ k. Lasting f rises (in_latest m.latest) (get_or steps k 0) (get_or (set table (128 + i) (cond b 0 (get_or table (128 + i) 0))) (128 + k) 0))
-            (sym (eqb-true j i z))
-            (subst (Lasting f rises (in_latest m.latest) (get_or steps i 0))
-            (sym (get_or-set_same table (128 + i) (cond b 0 (get_or table (128 + i) 0)) 0 (omega (arith, e.sized)))) (here b q))
+            subst (λ k. Lasting f rises (in_latest m.latest) (get_or steps k 0) (get_or (set table (128 + i) 0) (128 + k) 0)) (sym (eqb-true j i z))
+            (due (get_or-set_same table (128 + i) 0 0 (omega (arith, e.sized))) q)
         by j l false z =
             subst (Lasting f rises (in_latest m.latest) (get_or steps j 0))
-            (sym (get_or-set_other table (128 + i) (128 + j) (cond b 0 (get_or table (128 + i) 0)) 0 (λ y. eqb-false j i z (omega (arith, y))))) (e.lapses j l)
+            (sym (get_or-set_other table (128 + i) (128 + j) 0 0 (λ y. eqb-false j i z (omega (arith, y))))) (e.lapses j l)
 
 -- what the first n entries of each part have
 abbrev Has : List ℕ → List ℕ → ℕ → ℕ → Type 0

@@ -1,12 +1,12 @@
 -- Sifting a waiting list on an event: what holds once so many of its threads were looked at, and one thread more.
 use Prim.Native.Nat.{ℕ, suc, ◌+◌, ◌-◌, ◌<◌, ◌≤◌}
 use mathlib.Core.Path.{◌≡◌, refl, ap, ap₂, sym, ◌∙◌, subst}
-use mathlib.Core.Logic.{inl, inr}
 use mathlib.Core.Bool.{Bool, true, false, ◌&&◌}
 use mathlib.Core.List.{List, [], ◌∷◌, ◌++◌, map, append-nil}
-use mathlib.Core.Option.{none, some}
+use mathlib.Core.Option.{Option, none, some}
 use native.Mathlib.Numerals.{add-one}
 use native.Mathlib.Omega.{arith}
+use Rattle.std.specs.Prelude.{Option as Maybe, Some, None}
 use lib.Dec.{ltb}
 use lib.ListN.{length, get_or, take, drop, length-map, get_or-map, take-append-drop}
 use lib.Seq.{take-suc, take_all}
@@ -31,8 +31,8 @@ use Rattle.threads.specs.declared.Sifted.{Sifted}
 use Rattle.threads.specs.declared.Rules.{Rules}
 use Rattle.threads.specs.declared.Moment.{Moment}
 use Rattle.threads.specs.inner.Setting.{Scene, Fit, conf, thread}
-use Rattle.threads.specs.inner.Event.{waiting_in, Kept, SettledTo}
-use Rattle.threads.specs.inner.Calls.{Going, Chosen, Grown, Within, Remained, Idle, Sifts, Sifting, SiftedOn, SiftedTo, offered}
+use Rattle.threads.specs.inner.Event.{waiting_in, Kept, Placed, SettledTo}
+use Rattle.threads.specs.inner.Calls.{Going, Chosen, Grown, Within, Remained, Idle, Sifts, Sifting, SiftedTo, offered}
 use Rattle.slots.proofs.ByPlace.{kept-still}
 use Rattle.threads.proofs.Listed.{kept_at, thread-stays}
 use Rattle.threads.proofs.Tables.{fires-none, hopeful-lasting}
@@ -44,15 +44,15 @@ module _ (z : Seats) (before : List ℕ) where
   sifts-start = record { seen = omega arith; front = omega arith; room = omega arith; behind = λ i h k. refl; sized = refl }
 
   pub sifts-next : (j : ℕ) (a : Sifted) (now mid after : List ℕ) (t : Thread) (r q : ℕ) → z.half < 2 → z.count ≤ z.slots
-      → Sifts z before j a now → j < z.count → Grown (1 - z.half) z.slots now mid r → r ≤ z.slots
+      → Sifts z before j a now → j < z.count → Grown (1 - z.half) z.slots now mid (Some r)
       → Remained z.half a.stayed j t mid after q → Sifts z before (j + 1) (record { stayed = q; moved = r }) after
-  sifts-next j a now mid after t r q two most s h w room m =
+  sifts-next j a now mid after t r q two most s h w m =
       record {
         seen = omega arith;
         front = omega (arith, m.most, s.front);
-        room = room;
+        room = w.most;
         behind = λ i x b.
-            m.behind i (omega arith) ∙ thread-stays z.half z.slots z.count now mid r i (thread_at mid (place z.half i)) two most w b refl
+            m.behind i (omega arith) ∙ thread-stays z.half z.slots z.count now mid (Some r) i (thread_at mid (place z.half i)) two most w b refl
             ∙ s.behind i (omega arith) b;
         sized = m.sized ∙ w.sized ∙ s.sized;
       }
@@ -96,7 +96,7 @@ flag-leaves count stays alive p = le-ltb count count (omega arith) ∙ ap (λ b.
 -- ---- the threads one by one
 
 -- a half's list that was not touched
-other_half : (half slots : ℕ) (before after : List ℕ) (r m : ℕ) → half < 2 → Grown (1 - half) slots before after r → m ≤ slots
+other_half : (half slots : ℕ) (before after : List ℕ) (r : Maybe ℕ) (m : ℕ) → half < 2 → Grown (1 - half) slots before after r → m ≤ slots
     → list half m after ≡ list half m before
 other_half half slots before after r m two w h =
     let back : 1 - (1 - half) ≡ half = omega arith in
@@ -161,27 +161,23 @@ module _ (g : Log) (fm : Formula) (n : ℕ) (z : Seats) (before : List ℕ) wher
         by.moves_are
 
     -- they need one slot more
-    pub sifting-stopped : (mid : List ℕ) (r : ℕ) → Within g fm (1 - half) slots (waiting_in g fm (1 - half) a.moved now) left mid r → slots < r
-        → (r ≡ suc slots) × (settle (machine g fm) slots n ths ≡ none)
-    sifting-stopped mid r (inl p) l = absurd (omega (arith, p.0))
-    sifting-stopped mid r (inr p) l = (
-      p.0,
-      settle-over (machine g fm) slots n ths (take (j + 1) ths) (drop (j + 1) ths) (sym (take-append-drop (j + 1) ths)) (moved_then ∙ p.1),
-    )
+    pub sifting-stopped : (mid : List ℕ) → Within g fm (1 - half) slots (waiting_in g fm (1 - half) a.moved now) left mid None
+        → settle (machine g fm) slots n ths ≡ none
+    sifting-stopped mid p =
+        settle-over (machine g fm) slots n ths (take (j + 1) ths) (drop (j + 1) ths) (sym (take-append-drop (j + 1) ths)) (moved_then ∙ p)
 
     -- they fit, and it stays or not
-    pub sifting-next : (mid after : List ℕ) (r q : ℕ) → half < 2 → a.stayed ≤ slots → Going g fm t → Grown (1 - half) slots now mid r
-        → Within g fm (1 - half) slots (waiting_in g fm (1 - half) a.moved now) left mid r → r ≤ slots → Remained half a.stayed j t mid after q
+    pub sifting-next : (mid after : List ℕ) (r q : ℕ) → half < 2 → a.stayed ≤ slots → Going g fm t → Grown (1 - half) slots now mid (Some r)
+        → Within g fm (1 - half) slots (waiting_in g fm (1 - half) a.moved now) left mid (Some r) → Remained half a.stayed j t mid after q
         → ltb a.stayed q ≡ (c.stays && Runs.hopeful (machine g fm) n (thread g fm t)) → Sifting g fm n z before (j + 1) (record { stayed = q; moved = r }) after
     unfolding lasts
-    sifting-next mid after r q two k go w (inr p) l m o = absurd (omega (arith, p.0))
-    sifting-next mid after r q two k go w (inl p) l m o =
-        let same = other_half half slots now mid r a.stayed two w k in
+    sifting-next mid after r q two k go w p m o =
+        let same = other_half half slots now mid (Some r) a.stayed two w k in
         let kept = kept-as g fm half a.stayed now mid same s.stayed_kept in
         let flag : ltb a.stayed q ≡ lasts (machine g fm) n (thread g fm t) = o ∙ ap (λ b. b && Runs.hopeful (machine g fm) n (thread g fm t)) by.stays_is in
         record {
-          moved_are = moved_then ∙ p.1 ∙ ap (λ (l : List Thread). some (map (thread g fm) l)) (sym (m.other r));
-          moved_kept = kept-as g fm (1 - half) r mid after (m.other r) p.2;
+          moved_are = moved_then ∙ p.0 ∙ ap (λ (l : List Thread). some (map (thread g fm) l)) (sym (m.other r));
+          moved_kept = kept-as g fm (1 - half) r mid after (m.other r) p.1;
           stayed_are = ap (map (thread g fm)) m.listed ∙ map-only (thread g fm) (list half a.stayed mid) (ltb a.stayed q) t
               ∙ ap (λ (l : List Thread). map (thread g fm) l ++ only (ltb a.stayed q) (thread g fm t) []) same
               ∙ ap (λ (l : List (Runs.Thread (machine g fm))). l ++ only (ltb a.stayed q) (thread g fm t) []) s.stayed_are
@@ -209,7 +205,7 @@ module _ (f table : List ℕ) (rules : Rules) (m : Moment) (z : Seats) (before :
 
   pub idle-sifts : Sifts z before (j + 1) (record { stayed = a.stayed + 1; moved = a.moved }) now
   idle-sifts =
-      sifts-next z before j a now now now t a.moved (a.stayed + 1) two most s h (grown-same (1 - z.half) z.slots a.moved now s.room) s.room rests
+      sifts-next z before j a now now now t a.moved (a.stayed + 1) two most s h (grown-same (1 - z.half) z.slots a.moved now s.room) rests
 
   pub idle-sifting : (l places : List ℕ) (g : Log) (fm : Formula) → Scene g fm l places f table rules m → Kept g fm z.half z.count before
       → Sifting g fm m.number z before j a now → Sifting g fm m.number z before (j + 1) (record { stayed = a.stayed + 1; moved = a.moved }) now
@@ -222,45 +218,19 @@ module _ (f table : List ℕ) (rules : Rules) (m : Moment) (z : Seats) (before :
       let choice : Choice = record { from = 8; to = 8; stays = ltb 0 t.steps } in
       sifting-next g fm n z before j a now v t h e choice (quiet-choice g fm t n go.fit quiet) now now a.moved (a.stayed + 1) two
       (omega (arith, s.front, h, most)) go (grown-same (1 - z.half) z.slots a.moved now s.room)
-      (within_none g fm (1 - z.half) z.slots a.moved now _ (offers-done g fm t n 8 8 (omega arith)) s.room v.moved_kept) s.room rests
+      (within_none g fm (1 - z.half) z.slots a.moved now _ (offers-done g fm t n 8 8 (omega arith)) v.moved_kept) rests
       (flag-kept a.stayed (ltb 0 t.steps) (Runs.any_alive (machine g fm) (conf g fm t) n 8) (lt-ltb 0 t.steps idle.begun)
       (hopeful-lasting g fm f table rules m scene t go.fit idle.lasting))
 
 -- ---- the next waiting list
 
-module _ (g : Log) (fm : Formula) (n : ℕ) (z : Seats) (before mid : List ℕ) (r : Sifted) where
-  -- one thread more was sifted, or it stopped there
-  pub sifted-on : (j : ℕ) → SiftedOn g fm n z before j r mid → r.moved ≤ z.slots → Sifting g fm n z before j r mid
-  sifted-on j (inl p) h = p.1
-  sifted-on j (inr p) h = absurd (omega (arith, p.0))
-
-  pub sifted-stopped : (j : ℕ) → SiftedOn g fm n z before j r mid → z.slots < r.moved → SiftedTo g fm n z before mid r
-  sifted-stopped j (inl p) h = absurd (omega (arith, p.0))
-  sifted-stopped j (inr p) h = inr p
-
-  -- more threads moved than there are slots
-  pub settled-stopped : SiftedTo g fm n z before mid r → z.slots < r.moved → SettledTo g fm n z before mid r.moved
-  settled-stopped (inl p) h = absurd (omega (arith, p.0))
-  settled-stopped (inr p) h = inr p
-
-  -- those that moved were inserted into those that stay
-  pub settled-merged : (after : List ℕ) (q : ℕ) → SiftedTo g fm n z before mid r → r.moved ≤ z.slots
-      → (Kept g fm z.half r.stayed mid → Kept g fm (1 - z.half) r.moved mid
-      → Within g fm z.half z.slots (waiting_in g fm z.half r.stayed mid) (waiting_in g fm (1 - z.half) r.moved mid) after q)
-      → SettledTo g fm n z before after q
-  settled-merged after q (inr p) h w = absurd (omega (arith, p.0))
-  settled-merged after q (inl p) h w = by (w p.4 p.2)
-    where
-      ths : List (Runs.Thread (machine g fm))
-      ths = waiting_in g fm z.half z.count before
-
-      is : settle (machine g fm) z.slots n ths
-          ≡ insert_within (machine g fm) z.slots (waiting_in g fm z.half r.stayed mid) (waiting_in g fm (1 - z.half) r.moved mid)
-      is =
-          settle-by (machine g fm) z.slots n ths (waiting_in g fm (1 - z.half) r.moved mid) p.1
-          ∙ ap (λ (l : List (Runs.Thread (machine g fm))). insert_within (machine g fm) z.slots l (waiting_in g fm (1 - z.half) r.moved mid)) (sym p.3)
-
-      by : Within g fm z.half z.slots (waiting_in g fm z.half r.stayed mid) (waiting_in g fm (1 - z.half) r.moved mid) after q
-          → SettledTo g fm n z before after q
-      by (inl x) = inl (x.0, is ∙ x.1, x.2)
-      by (inr x) = inr (x.0, is ∙ x.1)
+-- those that moved were inserted into those that stay
+pub settled-merged : (g : Log) (fm : Formula) (n : ℕ) (z : Seats) (before mid after : List ℕ) (r : Sifted) (q : Maybe ℕ)
+    → SiftedTo g fm n z before mid (Some r)
+    → (Kept g fm z.half r.stayed mid → Kept g fm (1 - z.half) r.moved mid
+    → Within g fm z.half z.slots (waiting_in g fm z.half r.stayed mid) (waiting_in g fm (1 - z.half) r.moved mid) after q)
+    → SettledTo g fm n z before after q
+settled-merged g fm n z before mid after r q p w =
+    let is = settle-by (machine g fm) z.slots n (waiting_in g fm z.half z.count before) (waiting_in g fm (1 - z.half) r.moved mid) p.0
+    ∙ ap (λ (l : List (Runs.Thread (machine g fm))). insert_within (machine g fm) z.slots l (waiting_in g fm (1 - z.half) r.moved mid)) (sym p.2) in
+    subst (λ (x : Option (List (Runs.Thread (machine g fm)))). Placed g fm z.half x after q) (sym is) (w p.3 p.1)

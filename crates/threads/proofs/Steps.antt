@@ -5,6 +5,7 @@ use mathlib.Core.Bool.{true, false, true≢false, false≢true}
 use mathlib.Core.List.{List, [], ◌∷◌, ◌++◌, map}
 use mathlib.Core.Option.{Option, none, some}
 use native.Mathlib.Omega.{arith}
+use Rattle.std.specs.Prelude.{Option as Maybe, Some, None}
 use lib.Dec.{ltb}
 use lib.ListN.{length, take, length-set, length-map}
 use lib.Seq.{length-take-le}
@@ -26,7 +27,6 @@ use Rattle.machine_code.specs.inner.Bytes.{config_of}
 use Rattle.slots.specs.declared.Thread.{Thread}
 use Rattle.slots.specs.inner.Threads.{entry_of, trail_of, Extended}
 use Rattle.threads.specs.declared.Rules.{Rules}
-use Rattle.threads.specs.declared.Move.{Move}
 use Rattle.threads.specs.inner.Setting.{Setting, Fit, conf, thread}
 use Rattle.threads.specs.inner.Calls.{Fired, FiredBy, Going, MovedBy}
 use Rattle.machine.proofs.Premises.{premises}
@@ -56,30 +56,30 @@ made g fm c d t u p q = rw (p, q)
 
 module _ (g : Log) (fm : Formula) (f table : List ℕ) (rules : Rules) (s : Setting g fm f table rules) (t : Thread) (go : Going g fm t) (n k : ℕ)
     (there : n < length g.events) where
-  stepped-trail : (d : Config) (m : Move) (r : Thread) → Fired t d m → Extended m.thread n k r → trail_of r
+  stepped-trail : (d : Config) (m : Thread) (r : Thread) → Fired t d m → Extended m n k r → trail_of r
       ≡ trail_of t ++ (record { event = n; step = k } ∷ [])
-  stepped-trail d m r x w = w.trail ∙ ap (λ (y : Trail). y ++ (record { event = n; step = k } ∷ [])) (trail-same m.thread t x.same_steps x.same_trail)
+  stepped-trail d m r x w = w.trail ∙ ap (λ (y : Trail). y ++ (record { event = n; step = k } ∷ [])) (trail-same m t x.same_steps x.same_trail)
 
   -- the thread stands where its trail leads, with the lists gathered along it
   stands-so : (p : Standing) (i : ℕ) → i ≡ p.state → record { state = i; lists = p.lists } ≡ p
   stands-so p i e = rw e
 
   -- and so does the thread after the step
-  stepped-stands : (d : Config) (m : Move) (r : Thread) → fire_at g fm (conf g fm t) n k ≡ some d → Fired t d m → Extended m.thread n k r
+  stepped-stands : (d : Config) (m : Thread) (r : Thread) → fire_at g fm (conf g fm t) n k ≡ some d → Fired t d m → Extended m n k r
       → standing d ≡ along g fm first (trail_of r)
   stepped-stands d m r e x w =
       fire-along g fm (conf g fm t) d (trail_of t) n k (stands-so (along g fm first (trail_of t)) t.config.state go.fit.leads) e
       ∙ ap (λ (y : Trail). along g fm first y) (sym (stepped-trail d m r x w))
 
   -- it stands for the configuration that the step leaves
-  stepped-conf : (d : Config) (m : Move) (r : Thread) → fire_at g fm (conf g fm t) n k ≡ some d → Fired t d m → Extended m.thread n k r → conf g fm r ≡ d
+  stepped-conf : (d : Config) (m : Thread) (r : Thread) → fire_at g fm (conf g fm t) n k ≡ some d → Fired t d m → Extended m n k r → conf g fm r ≡ d
   stepped-conf d m r e x w =
       let p = stepped-stands d m r e x w in
       ap (λ (y : Thread). config_of (gathered g fm (trail_of r)) y.config) w.fields
-      ∙ ap (λ (y : Standing). config_of y.lists m.thread.config) (sym p) ∙ x.leaves
+      ∙ ap (λ (y : Standing). config_of y.lists m.config) (sym p) ∙ x.leaves
 
   -- the thread after the step is one that a search keeps
-  stepped-fit : (d : Config) (m : Move) (r : Thread) → fire_at g fm (conf g fm t) n k ≡ some d → Fired t d m → Extended m.thread n k r → Fit g fm r
+  stepped-fit : (d : Config) (m : Thread) (r : Thread) → fire_at g fm (conf g fm t) n k ≡ some d → Fired t d m → Extended m n k r → Fit g fm r
   stepped-fit d m r e x w =
       let c : conf g fm r ≡ d = stepped-conf d m r e x w in
       let p = stepped-stands d m r e x w in
@@ -89,7 +89,7 @@ module _ (g : Log) (fm : Formula) (f table : List ℕ) (rules : Rules) (s : Sett
       let sum : total r.config.counters ≡ suc (total t.config.counters) = ap (λ (y : Config). total y.counters) c
       ∙ weight_fire g fm (conf g fm t) d n k e in
       record {
-        trail_32 = ap (λ (y : Thread). length y.trail) w.fields ∙ length-set m.thread.trail m.thread.steps (n * 8 + k) ∙ ap length x.same_trail
+        trail_32 = ap (λ (y : Thread). length y.trail) w.fields ∙ length-set m.trail m.steps (n * 8 + k) ∙ ap length x.same_trail
             ∙ go.fit.trail_32;
         valid = v;
         weight = omega (arith, steps, sum, go.fit.weight);
@@ -100,34 +100,33 @@ module _ (g : Log) (fm : Formula) (f table : List ℕ) (rules : Rules) (s : Sett
         tallies_are = ap (λ (y : Thread). y.config.tallies) w.fields ∙ x.tallied ∙ ap (λ (y : Standing). tallies y.lists) p;
       }
 
-  stepped-is : (d : Config) (m : Move) (r : Thread) → fire_at g fm (conf g fm t) n k ≡ some d → Fired t d m → Extended m.thread n k r
+  stepped-is : (d : Config) (m : Thread) (r : Thread) → fire_at g fm (conf g fm t) n k ≡ some d → Fired t d m → Extended m n k r
       → thread g fm r ≡ record { config = d; trail = trail_of t ++ (record { event = n; step = k } ∷ []) }
   stepped-is d m r e x w =
       made g fm (conf g fm r) d (trail_of r) (trail_of t ++ (record { event = n; step = k } ∷ [])) (stepped-conf d m r e x w) (stepped-trail d m r x w)
 
   -- a step that fires, taken
-  pub moved-fires : (m : Move) (r : Thread) → FiredBy (fire_at g fm (conf g fm t) n k) t m → m.fires ≡ true → Extended m.thread n k r
-      → MovedBy g fm (fire_at g fm (conf g fm t) n k) t n k (record { fires = true; thread = r })
-  moved-fires m r h e w = by (fire_at g fm (conf g fm t) n k) refl h
+  pub moved-fires : (m r : Thread) → FiredBy (fire_at g fm (conf g fm t) n k) t (Some m) → Extended m n k r
+      → MovedBy g fm (fire_at g fm (conf g fm t) n k) t n k (Some r)
+  moved-fires m r h w = by (fire_at g fm (conf g fm t) n k) refl h
     where
-      by : (o : Option Config) → fire_at g fm (conf g fm t) n k ≡ o → FiredBy o t m → MovedBy g fm o t n k (record { fires = true; thread = r })
-      by none q x = absurd (true≢false (sym e ∙ x))
-      by (some d) q x = record { fires = refl; is = stepped-is d m r q x w; fit = stepped-fit d m r q x w }
+      by : (o : Option Config) → fire_at g fm (conf g fm t) n k ≡ o → FiredBy o t (Some m) → MovedBy g fm o t n k (Some r)
+      by none q x = absurd cc
+      by (some d) q x = record { is = stepped-is d m r q x w; fit = stepped-fit d m r q x w }
 
   -- a step that does not fire
-  pub moved-silent : (m : Move) (r : Thread) → FiredBy (fire_at g fm (conf g fm t) n k) t m → m.fires ≡ false
-      → MovedBy g fm (fire_at g fm (conf g fm t) n k) t n k (record { fires = false; thread = r })
-  moved-silent m r h e = by (fire_at g fm (conf g fm t) n k) h
+  pub moved-silent : FiredBy (fire_at g fm (conf g fm t) n k) t None → MovedBy g fm (fire_at g fm (conf g fm t) n k) t n k None
+  moved-silent h = by (fire_at g fm (conf g fm t) n k) h
     where
-      by : (o : Option Config) → FiredBy o t m → MovedBy g fm o t n k (record { fires = false; thread = r })
+      by : (o : Option Config) → FiredBy o t None → MovedBy g fm o t n k None
       by none x = refl
-      by (some d) x = absurd (false≢true (sym e ∙ x.fires))
+      by (some d) x = x
 
   -- no thread of a search has so many steps
-  pub moved-long : (m : Move) (r : Thread) → FiredBy (fire_at g fm (conf g fm t) n k) t m → m.fires ≡ true → 32 ≤ m.thread.steps
-      → MovedBy g fm (fire_at g fm (conf g fm t) n k) t n k (record { fires = false; thread = r })
-  moved-long m r h e l = by (fire_at g fm (conf g fm t) n k) h
+  pub moved-long : (m : Thread) → FiredBy (fire_at g fm (conf g fm t) n k) t (Some m) → 32 ≤ m.steps
+      → MovedBy g fm (fire_at g fm (conf g fm t) n k) t n k None
+  moved-long m h l = by (fire_at g fm (conf g fm t) n k) h
     where
-      by : (o : Option Config) → FiredBy o t m → MovedBy g fm o t n k (record { fires = false; thread = r })
+      by : (o : Option Config) → FiredBy o t (Some m) → MovedBy g fm o t n k None
       by none x = refl
       by (some d) x = absurd (omega (arith, x.same_steps, go.short))

@@ -8,7 +8,9 @@ use mathlib.Core.Logic.{◌⊎◌, inl, inr}
 use mathlib.Core.Option.{Option, none, some}
 use native.Mathlib.Nat.{eq-or-lt_of_le}
 use native.Mathlib.Omega.{arith}
+use Rattle.std.specs.Prelude.{Option as Maybe, Some, None}
 use lib.ListN.{length, get_or, drop}
+use Rattle.base.specs.Lists.{some_if}
 use lib.Seq.{get_or-drop}
 use Rattle.event_log.specs.Log.{Log}
 use Rattle.event_log.specs.Arrays.{in_event, in_latest}
@@ -18,20 +20,20 @@ use Rattle.runs.specs.inner.Search.{any_alive}
 use Rattle.machine.specs.Configuration.{Config}
 use Rattle.machine.specs.Machine.{machine, fire_at}
 use Rattle.slots.specs.declared.Thread.{Thread}
+use Rattle.machine_code.specs.declared.Configuration.{Configuration}
 use Rattle.machine_code.specs.inner.Bytes.{fired, lapsed, offset_of, is_step, fires_at, expires_at, lowest_from, lowest_of, alive_below}
 use Rattle.machine_code.proofs.StepsByNumber.{offset-in, step-none}
 use Rattle.machine_code.proofs.FiringOnBytes.{Ready}
 use Rattle.machine_code.proofs.SameMachine.{Lowest, is_fired, fires-machine, hopeful-machine, lowest-machine}
 use Rattle.machine.specs.inner.Along.{gathered, IsFresh}
 use Rattle.slots.specs.inner.Threads.{trail_of}
-use Rattle.threads.specs.declared.Move.{Move}
 use Rattle.threads.specs.inner.Calls.{FiredBy}
 use Rattle.threads.specs.declared.Rules.{Rules}
 use Rattle.threads.specs.declared.Moment.{Moment}
 use Rattle.threads.specs.inner.Setting.{Scene, Fit, conf, Firing, stands, barred, Lasting, lasts, due}
 use Rattle.threads.proofs.Lists.{some_fresh, some-fresh, carries}
 use Rattle.threads.proofs.Charts as Base
-use Rattle.threads.proofs.Charts.{charted, marks, event-fields, latest-fields, ready_of}
+use Rattle.threads.proofs.Charts.{charted, marks, event-fields, latest-fields, ready_of, with_config}
 
 -- tests that agree on the 8 steps of a state have the same lowest step and the same steps left
 lowest-same : (p q : ℕ → Bool) (k n : ℕ) → k + n ≡ 8 → ((j : ℕ) → j < 8 → p j ≡ q j) → lowest_from p k n ≡ lowest_from q k n
@@ -201,17 +203,14 @@ module _ (g : Log) (fm : Formula) {l places : List ℕ} (f table : List ℕ) (ru
 
     -- one that it has fires as the code says, and leaves what the code leaves
     pub fires-some : (fresh : List Bool) → IsFresh (gathered g fm (trail_of t)) (in_event m.event) fresh → (offset_of table t.config.state k ≡ 0 → ⊥)
-        → (r : Move)
+        → (r : Maybe Configuration)
         → ((at : ℕ) → at ≡ offset_of table t.config.state k
-        → r ≡ record {
-          fires = (fired f at t.config fresh (in_event m.event)).fires;
-          thread = record { config = (fired f at t.config fresh (in_event m.event)).config; steps = t.steps; trail = t.trail };
-        })
-        → FiredBy (fire_at g fm (conf g fm t) m.number k) t r
+        → r ≡ some_if (fired f at t.config fresh (in_event m.event)).fires (fired f at t.config fresh (in_event m.event)).config)
+        → FiredBy (fire_at g fm (conf g fm t) m.number k) t (with_config t r)
     fires-some fresh new z r e = go (entry k h)
       where
         go : Firing f (in_event m.event) (offset_of (step_table fm) t.config.state k) (offset_of table t.config.state k)
-            → FiredBy (fire_at g fm (conf g fm t) m.number k) t r
+            → FiredBy (fire_at g fm (conf g fm t) m.number k) t (with_config t r)
         go (stands x) =
             Base.fires-some g fm f (step_table fm) rules s.setting m s.loads t k h fresh
             (carries g fm f table rules m s t w (in_event m.event) fresh new)

@@ -1,46 +1,52 @@
 -- A step that is passed over: where it fires, it leads elsewhere.
 use Prim.Native.Nat.{ℕ, ◌<◌}
-use mathlib.Core.Path.{◌≡◌, ap, sym, subst, ◌∙◌}
-use mathlib.Core.Bool.{Bool, false, not}
+use mathlib.Core.Path.{◌≡◌, refl, sym, ◌∙◌}
+use mathlib.Core.Bool.{Bool, true, false, not, true≢false}
 use mathlib.Core.List.{List}
 use mathlib.Core.Option.{some}
+use Rattle.std.specs.Prelude.{Option as Maybe, Some, None, is_some}
 use Rattle.event_log.specs.Arrays.{in_event}
 use Rattle.event_log.specs.Log.{Log}
-use Rattle.event_log.specs.declared.Event.{Event}
 use Rattle.formula.specs.Formula.{Formula}
+use Rattle.formula.specs.Lookup.{step_table}
 use Rattle.runs.proofs.Least.{some≢none}
 use Rattle.machine.specs.Configuration.{Config}
 use Rattle.machine.specs.Machine.{fire_at, final}
 use Rattle.machine.specs.inner.Along.{gathered, IsFresh}
-use Rattle.machine_code.specs.declared.Configuration.{Configuration}
 use Rattle.machine_code.specs.inner.Bytes.{offset_of, fired}
 use Rattle.slots.specs.declared.Thread.{Thread}
 use Rattle.slots.specs.inner.Threads.{trail_of}
-use Rattle.threads.specs.declared.Rules.{Rules}
-use Rattle.threads.specs.declared.Moment.{Moment}
-use Rattle.threads.specs.inner.Setting.{Scene, Fit, conf}
-use Rattle.threads.specs.inner.Calls.{LeadsIs}
+use Rattle.threads.specs.declared.scene.Scene.{Scene}
+use Rattle.threads.specs.inner.Setting.{Stands, Fit, conf}
+use Rattle.threads.specs.inner.Calls.{LeadsIs, FreshIs, Passed, FirstTakenIs, EndsNothing}
+use Rattle.threads.proofs.Charts.{event-values}
 use Rattle.threads.proofs.Tables.{fires-not}
 
-module _ (f table kinds : List ℕ) (c : Configuration) (fresh : List Bool) (event : Event) (ends : Bool) where
-  -- step k of a thread with this configuration, and with marks on what is new to its lists
+module _ (s : Scene) (t : Thread) (fresh : List Bool) (ends : Bool) where
+  -- step k of the thread, with marks on what is new to its lists
   abbrev pub PassedOver : ℕ → Type 0
   PassedOver k =
-      (g : Log) (fm : Formula) (l places : List ℕ) (rules : Rules) (m : Moment) → Scene g fm l places f table rules m → rules.kinds ≡ kinds
-      → m.event ≡ event → (t : Thread) → t.config ≡ c → Fit g fm t → IsFresh (gathered g fm (trail_of t)) (in_event event) fresh → (d : Config)
-      → fire_at g fm (conf g fm t) m.number k ≡ some d → final fm d ≡ not ends
+      (g : Log) (fm : Formula) → Stands g fm s → Fit g fm t → IsFresh (gathered g fm (trail_of t)) (in_event s.moment.event) fresh → (d : Config)
+      → fire_at g fm (conf g fm t) s.moment.number k ≡ some d → final fm d ≡ not ends
 
   -- by its target, the event's table, or what is held
-  pub passed-leads : (k : ℕ) → LeadsIs f table kinds c.state c.held c.values (in_event event) k (not ends) → PassedOver k
-  passed-leads k h g fm l places rules m s q v t i w new =
-      h g fm l places rules m s q (ap in_event v) t (ap (λ (z : Configuration). z.state) i) (ap (λ (z : Configuration). z.held) i)
-      (ap (λ (z : Configuration). z.values) i) w
+  pub passed-leads : (k : ℕ) → LeadsIs s t.config.state t.config.held t.config.values k (not ends) → PassedOver k
+  passed-leads k h g fm stands w new = h g fm stands t refl refl refl w
 
   -- by its bytes
-  pub passed-quiet : (k : ℕ) → k < 8 → (at : ℕ) → at ≡ offset_of table c.state k → (fired f at c fresh (in_event event)).fires ≡ false → PassedOver k
-  passed-quiet k b at e quiet g fm l places rules m s q v t i w new d x =
-      absurd (some≢none (sym x ∙ fires-not g fm f table rules m s t w k b fresh
-      (subst (λ (z : Event). IsFresh (gathered g fm (trail_of t)) (in_event z) fresh) (sym v) new) at
-      (e ∙ ap (λ (z : Configuration). offset_of table z.state k) (sym i))
-      (ap (λ (z : Configuration). (fired f at z fresh (in_event m.event)).fires) i
-      ∙ ap (λ (z : Event). (fired f at c fresh (in_event z)).fires) v ∙ quiet)))
+  pub passed-quiet : (k : ℕ) → k < 8 → (at : ℕ) → at ≡ offset_of s.table.now t.config.state k
+      → (fired s.formula.now at t.config fresh (in_event s.moment.event)).fires ≡ false → PassedOver k
+  passed-quiet k b at e quiet g fm stands w new d x =
+      absurd (some≢none (sym x ∙ fires-not g fm s.formula.now s.table.now s.rules s.moment stands t w k b fresh new at e quiet))
+
+  -- steps that are passed over before one, or all, whatever is new to the lists
+  pub passed-all : (n : ℕ) → ((k : ℕ) → k < n → PassedOver k) → FreshIs s t s.moment.event.values fresh → Passed s t ends n
+  passed-all n h new g fm stands w k l =
+      h k l g fm stands w
+      (new g fm stands w (in_event s.moment.event) (event-values g fm s.formula.now (step_table fm) s.rules stands.setting s.moment stands.loads))
+
+-- where no step was found that ends a run, none does
+pub nothing-taken : (s : Scene) (t : Thread) (r : Maybe ℕ) → FirstTakenIs s t true r → is_some r ≡ false → (g : Log) (fm : Formula) → Stands g fm s
+    → Fit g fm t → EndsNothing g fm t s.moment.number
+nothing-taken s t None x e g fm stands w = x g fm stands w
+nothing-taken s t (Some k) x e g fm stands w = absurd (true≢false e)

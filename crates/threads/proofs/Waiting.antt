@@ -6,6 +6,7 @@ use mathlib.Core.Bool.{Bool, true, false, not, ◌&&◌, true≢false, false≢t
 use mathlib.Core.List.{List, [], ◌∷◌, ◌++◌, map}
 use mathlib.Core.Option.{Option, none, some}
 use native.Mathlib.Omega.{arith}
+use Rattle.std.specs.Prelude.{Option as Maybe, Some, None, IfSome}
 use lib.Dec.{leb}
 use lib.ListN.{length, length-map}
 use borrow.Author.Tests.{le-leb, lt-leb, leb-true, leb-false}
@@ -22,11 +23,13 @@ use Rattle.machine.specs.Configuration.{Config}
 use Rattle.machine.specs.Machine.{machine, fire_at, final}
 use Rattle.slots.specs.declared.Thread.{Thread}
 use Rattle.slots.specs.inner.Threads.{trail_of, comes_after, replaced, lesser_thread, placed, insert_thread}
-use Rattle.slots.specs.inner.Words.{list, Around, Inserted}
-use Rattle.threads.specs.declared.Move.{Move}
+use Rattle.slots.specs.inner.Words.{list, Around, Inserted, InsertedAt}
+use Rattle.threads.specs.declared.Seats.{Seats}
+use Rattle.threads.specs.declared.scene.Scene.{Scene}
 use Rattle.threads.specs.inner.Setting.{Fit, conf, thread}
-use Rattle.threads.specs.inner.Event.{waiting_in, Kept}
-use Rattle.threads.specs.inner.Calls.{Going, MovedBy, move_by, Grown, Within, offered, same_as}
+use Rattle.threads.specs.inner.Event.{waiting_in, Kept, Placed}
+use Rattle.threads.specs.inner.Calls.{Going, MovedBy, move_by, Grown, Within, FoundIs, InsertIs, offered, same_as}
+use Rattle.threads.proofs.Below.{found-below}
 use Rattle.threads.proofs.Firing.{firing-next}
 use Rattle.threads.proofs.Inserting.{insert-is}
 use Rattle.threads.proofs.Steps.{trail-length}
@@ -50,43 +53,43 @@ insert_all P test b (a ∷ ths) p h = by (test a) (insert_all P test b ths p h.1
 
 -- ---- words that stay
 
-pub grown-same : (half slots count : ℕ) (l : List ℕ) → count ≤ slots → Grown half slots l l count
-grown-same half slots count l h = record { most = omega arith; other = λ m k. refl; sized = refl }
+pub grown-same : (half slots count : ℕ) (l : List ℕ) → count ≤ slots → Grown half slots l l (Some count)
+grown-same half slots count l h = record { most = h; other = λ m k. refl; sized = refl }
 
-pub grown-insert : (half count slots : ℕ) (before after : List ℕ) (r : ℕ) → half < 2 → count ≤ slots → Around half count before after r
-    → Grown half slots before after r
-grown-insert half count slots before after r two h i =
-    record { most = omega (arith, i.most); other = λ m k. i.other (1 - half) 0 m (omega arith); sized = i.sized }
+pub grown-insert : (half count slots : ℕ) (before after : List ℕ) (r : ℕ) (q : Maybe ℕ) → half < 2 → IfSome q (λ n. n ≤ slots)
+    → Around half count before after r → Grown half slots before after q
+grown-insert half count slots before after r q two h i =
+    record { most = h; other = λ m k. i.other (1 - half) 0 m (omega arith); sized = i.sized }
 
-pub grown-then : (half slots : ℕ) (a b c : List ℕ) (r s : ℕ) → Grown half slots a b r → Grown half slots b c s → Grown half slots a c s
+pub grown-then : (half slots : ℕ) (a b c : List ℕ) (r s : Maybe ℕ) → Grown half slots a b r → Grown half slots b c s → Grown half slots a c s
 grown-then half slots a b c r s p q = record { most = q.most; other = λ m h. q.other m h ∙ p.other m h; sized = q.sized ∙ p.sized }
 
 -- ---- what a step leaves
 
-module _ (g : Log) (fm : Formula) (t : Thread) (n k : ℕ) (m : Move) (h : MovedBy g fm (fire_at g fm (conf g fm t) n k) t n k m) where
-  pub move-silent : m.fires ≡ false → move_by g fm t n k ≡ []
-  move-silent e = by (fire_at g fm (conf g fm t) n k) h
+module _ (g : Log) (fm : Formula) (t : Thread) (n k : ℕ) where
+  pub move-silent : MovedBy g fm (fire_at g fm (conf g fm t) n k) t n k None → move_by g fm t n k ≡ []
+  move-silent h = by (fire_at g fm (conf g fm t) n k) h
     where
-      by : (o : Option Config) → MovedBy g fm o t n k m → Runs.arrive (machine g fm) (thread g fm t) n k o [] ≡ []
+      by : (o : Option Config) → MovedBy g fm o t n k None → Runs.arrive (machine g fm) (thread g fm t) n k o [] ≡ []
       by none x = refl
-      by (some d) x = absurd (false≢true (sym e ∙ x.fires))
+      by (some d) x = absurd x
 
-  pub move-fires : m.fires ≡ true → (move_by g fm t n k ≡ thread g fm m.thread ∷ []) × Fit g fm m.thread
-  move-fires e = by (fire_at g fm (conf g fm t) n k) h
-    where
-      by : (o : Option Config) → MovedBy g fm o t n k m
-          → (Runs.arrive (machine g fm) (thread g fm t) n k o [] ≡ thread g fm m.thread ∷ []) × Fit g fm m.thread
-      by none x = absurd (true≢false (sym e ∙ x))
-      by (some d) x = (ap (λ (y : Runs.Thread (machine g fm)). y ∷ []) (sym x.is), x.fit)
+  module _ (m : Thread) (h : MovedBy g fm (fire_at g fm (conf g fm t) n k) t n k (Some m)) where
+    pub move-fires : (move_by g fm t n k ≡ thread g fm m ∷ []) × Fit g fm m
+    move-fires = by (fire_at g fm (conf g fm t) n k) h
+      where
+        by : (o : Option Config) → MovedBy g fm o t n k (Some m)
+            → (Runs.arrive (machine g fm) (thread g fm t) n k o [] ≡ thread g fm m ∷ []) × Fit g fm m
+        by none x = absurd cc
+        by (some d) x = (ap (λ (y : Runs.Thread (machine g fm)). y ∷ []) (sym x.is), x.fit)
 
-  -- what it leaves has ended, where it leads to a state that accepts or rejects
-  pub move-final : m.fires ≡ true → ((d : Config) → fire_at g fm (conf g fm t) n k ≡ some d → final fm d ≡ true)
-      → final fm (conf g fm m.thread) ≡ true
-  move-final e o = by (fire_at g fm (conf g fm t) n k) refl h
-    where
-      by : (x : Option Config) → fire_at g fm (conf g fm t) n k ≡ x → MovedBy g fm x t n k m → final fm (conf g fm m.thread) ≡ true
-      by none q x = absurd (true≢false (sym e ∙ x))
-      by (some d) q x = ap (λ (y : Runs.Thread (machine g fm)). final fm y.config) x.is ∙ o d q
+    -- what it leaves has ended, where it leads to a state that accepts or rejects
+    pub move-final : ((d : Config) → fire_at g fm (conf g fm t) n k ≡ some d → final fm d ≡ true) → final fm (conf g fm m) ≡ true
+    move-final o = by (fire_at g fm (conf g fm t) n k) refl h
+      where
+        by : (x : Option Config) → fire_at g fm (conf g fm t) n k ≡ x → MovedBy g fm x t n k (Some m) → final fm (conf g fm m) ≡ true
+        by none q x = absurd cc
+        by (some d) q x = ap (λ (y : Runs.Thread (machine g fm)). final fm y.config) x.is ∙ o d q
 
 module _ (g : Log) (fm : Formula) where
   -- ---- what may wait
@@ -162,100 +165,98 @@ module _ (g : Log) (fm : Formula) (half slots : ℕ) where
   -- ---- inserting
 
   -- nothing is inserted
-  pub within_none : (count : ℕ) (l : List ℕ) (bs : List (Runs.Thread (machine g fm))) → bs ≡ [] → count ≤ slots → Kept g fm half count l
-      → Within g fm half slots (waiting_in g fm half count l) bs l count
+  pub within_none : (count : ℕ) (l : List ℕ) (bs : List (Runs.Thread (machine g fm))) → bs ≡ [] → Kept g fm half count l
+      → Within g fm half slots (waiting_in g fm half count l) bs l (Some count)
   unfolding insert_within
-  within_none count l bs e h k = inl (h, ap (insert_within (machine g fm) slots (waiting_in g fm half count l)) e, k)
+  within_none count l bs e k = (ap (insert_within (machine g fm) slots (waiting_in g fm half count l)) e, k)
 
   -- the same threads, named otherwise
-  pub within-as : (ths xs ys : List (Runs.Thread (machine g fm))) (after : List ℕ) (r : ℕ) → xs ≡ ys → Within g fm half slots ths ys after r
+  pub within-as : (ths xs ys : List (Runs.Thread (machine g fm))) (after : List ℕ) (r : Maybe ℕ) → xs ≡ ys → Within g fm half slots ths ys after r
       → Within g fm half slots ths xs after r
   within-as ths xs ys after r e h = subst (λ (z : List (Runs.Thread (machine g fm))). Within g fm half slots ths z after r) (sym e) h
-
-  -- inserting has given `whole`: a list, which stands in the half, or nothing
-  abbrev pub Done : Option (List (Runs.Thread (machine g fm))) → List ℕ → ℕ → Type 0
-  Done whole after r = ((r ≤ slots) × (whole ≡ some (waiting_in g fm half r after)) × Kept g fm half r after) ⊎ ((r ≡ suc slots) × (whole ≡ none))
 
   -- What is left to insert: the threads bs, into the list of r threads that stands in the half; the whole gives `whole`.
   pub record Left (whole : Option (List (Runs.Thread (machine g fm)))) (bs : List (Runs.Thread (machine g fm))) (after : List ℕ) (r : ℕ) : Type 0 where
     pub is : whole ≡ insert_within (machine g fm) slots (waiting_in g fm half r after) bs
     pub kept : Kept g fm half r after
 
-  module _ (whole : Option (List (Runs.Thread (machine g fm)))) (xs ys : List (Runs.Thread (machine g fm))) (mid after : List ℕ) (r s : ℕ)
+  module _ (whole : Option (List (Runs.Thread (machine g fm)))) (xs ys : List (Runs.Thread (machine g fm))) (mid after : List ℕ) (r : ℕ)
       (left : Left whole (xs ++ ys) mid r) where
     both : whole ≡ chain (machine g fm) (insert_within (machine g fm) slots (waiting_in g fm half r mid) xs) (λ more. insert_within (machine g fm) slots more ys)
     both = left.is ∙ within-append (machine g fm) slots (waiting_in g fm half r mid) xs ys
 
     -- the first of them fit
-    pub left-next : Within g fm half slots (waiting_in g fm half r mid) xs after s → s ≤ slots → Left whole ys after s
-    left-next (inl p) l = record { is = both ∙ ap (λ o. chain (machine g fm) o (λ more. insert_within (machine g fm) slots more ys)) p.1; kept = p.2 }
-    left-next (inr p) l = absurd (omega (arith, p.0))
+    pub left-next : (s : ℕ) → Within g fm half slots (waiting_in g fm half r mid) xs after (Some s) → Left whole ys after s
+    left-next s p = record { is = both ∙ ap (λ o. chain (machine g fm) o (λ more. insert_within (machine g fm) slots more ys)) p.0; kept = p.1 }
 
     -- they need one slot more
-    pub left-stopped : Within g fm half slots (waiting_in g fm half r mid) xs after s → slots < s → Done whole after s
-    left-stopped (inl p) l = absurd (omega (arith, p.0))
-    left-stopped (inr p) l = inr (p.0, both ∙ ap (λ o. chain (machine g fm) o (λ more. insert_within (machine g fm) slots more ys)) p.1)
+    pub left-stopped : Within g fm half slots (waiting_in g fm half r mid) xs after None → whole ≡ none
+    left-stopped p = both ∙ ap (λ o. chain (machine g fm) o (λ more. insert_within (machine g fm) slots more ys)) p
 
   -- the same threads, named otherwise
   pub left_as : (whole : Option (List (Runs.Thread (machine g fm)))) (xs ys : List (Runs.Thread (machine g fm))) (after : List ℕ) (r : ℕ) → xs ≡ ys
       → Left whole xs after r → Left whole ys after r
   left_as whole xs ys after r e h = subst (λ (z : List (Runs.Thread (machine g fm))). Left whole z after r) e h
 
-  -- the rest of them, and nothing at all
-  pub left-last : (whole : Option (List (Runs.Thread (machine g fm)))) (bs : List (Runs.Thread (machine g fm))) (mid after : List ℕ) (r s : ℕ)
-      → Left whole bs mid r → Within g fm half slots (waiting_in g fm half r mid) bs after s → Done whole after s
-  left-last whole bs mid after r s h w = subst (λ z. Done z after s) (sym h.is) w
-
-  pub left-none : (whole : Option (List (Runs.Thread (machine g fm)))) (bs : List (Runs.Thread (machine g fm))) (after : List ℕ) (r : ℕ) → bs ≡ [] → r ≤ slots
-      → Left whole bs after r → Done whole after r
-  left-none whole bs after r e l h = left-last whole bs after after r r h (within_none r after bs e l h.kept)
+  -- nothing at all
+  pub left-none : (whole : Option (List (Runs.Thread (machine g fm)))) (bs : List (Runs.Thread (machine g fm))) (after : List ℕ) (r : ℕ) → bs ≡ []
+      → Left whole bs after r → Placed g fm half whole after (Some r)
+  left-none whole bs after r e h = let w = within_none r after bs e h.kept in (h.is ∙ w.0, w.1)
 
   -- one thread was inserted
-  pub within-one : (count : ℕ) (b : Thread) (before after : List ℕ) (r : ℕ) → count ≤ slots → Kept g fm half count before → Going g fm b
-      → Around half count before after r → Inserted (same_as g fm b) half count slots b before after r
-      → Within g fm half slots (waiting_in g fm half count before) (thread g fm b ∷ []) after r
-  unfolding insert_within
-  within-one count b before after r h k w o i = by (leb r slots) refl
-    where
-      more : List Thread
-      more = insert_thread (same_as g fm b) b (list half count before)
+  module _ (count : ℕ) (b : Thread) (before after : List ℕ) (r : ℕ) (i : Inserted (same_as g fm b) half count slots b before after r) where
+    abbrev more : List Thread
+    more = insert_thread (same_as g fm b) b (list half count before)
 
-      inserted : insert (machine g fm) (thread g fm b) (waiting_in g fm half count before) ≡ map (thread g fm) more
-      inserted = sym (insert-is g fm b (list half count before))
+    inserted : insert (machine g fm) (thread g fm b) (waiting_in g fm half count before) ≡ map (thread g fm) more
+    inserted = sym (insert-is g fm b (list half count before))
 
-      longer : length (insert (machine g fm) (thread g fm b) (waiting_in g fm half count before)) ≡ r
-      longer = ap length inserted ∙ length-map more (thread g fm) ∙ sym i.counted
+    longer : length (insert (machine g fm) (thread g fm b) (waiting_in g fm half count before)) ≡ r
+    longer = ap length inserted ∙ length-map more (thread g fm) ∙ sym i.counted
 
-      by : (c : Bool) → leb r slots ≡ c → Within g fm half slots (waiting_in g fm half count before) (thread g fm b ∷ []) after r
-      by true e =
-          let l : r ≤ slots = leb-true r slots e in
-          let q = i.listed l in
-          inl (
-            l,
-            within-fits (machine g fm) slots (waiting_in g fm half count before) (thread g fm b) [] (omega (arith, longer))
-                ∙ ap (λ (z : List (Runs.Thread (machine g fm))). some z) (inserted ∙ ap (map (thread g fm)) (sym q)),
-            record {
-              fit = subst (All (Fit g fm)) (sym q) (insert_all (Fit g fm) (same_as g fm b) b (list half count before) w.fit k.fit);
-              short = subst (All (λ (t : Thread). t.steps < 32)) (sym q)
-                  (insert_all (λ (t : Thread). t.steps < 32) (same_as g fm b) b (list half count before) w.short k.short);
-            },
-          )
-      by false e =
-          let l : slots < r = leb-false r slots e in
-          inr (omega (arith, o.most, l), within-over (machine g fm) slots (waiting_in g fm half count before) (thread g fm b) [] (omega (arith, longer)))
+    pub one-fits : Kept g fm half count before → Going g fm b → r ≤ slots
+        → Within g fm half slots (waiting_in g fm half count before) (thread g fm b ∷ []) after (Some r)
+    unfolding insert_within
+    one-fits k w l =
+        let q = i.listed l in (
+          within-fits (machine g fm) slots (waiting_in g fm half count before) (thread g fm b) [] (omega (arith, longer))
+              ∙ ap (λ (z : List (Runs.Thread (machine g fm))). some z) (inserted ∙ ap (map (thread g fm)) (sym q)),
+          record {
+            fit = subst (All (Fit g fm)) (sym q) (insert_all (Fit g fm) (same_as g fm b) b (list half count before) w.fit k.fit);
+            short = subst (All (λ (t : Thread). t.steps < 32)) (sym q)
+                (insert_all (λ (t : Thread). t.steps < 32) (same_as g fm b) b (list half count before) w.short k.short);
+          },
+        )
 
-  module _ (n count : ℕ) (b : Thread) (before : List ℕ) (h : count ≤ slots) (k : Kept g fm half count before) where
+    pub one-over : slots < r → Within g fm half slots (waiting_in g fm half count before) (thread g fm b ∷ []) after None
+    one-over l = within-over (machine g fm) slots (waiting_in g fm half count before) (thread g fm b) [] (omega (arith, longer))
+
+  module _ (n count : ℕ) (b : Thread) (before : List ℕ) where
     -- some step of its state is not expired
-    pub wait-in : (after : List ℕ) (r : ℕ) → Going g fm b → true ≡ Runs.any_alive (machine g fm) (conf g fm b) n 8
-        → Around half count before after r → Inserted (same_as g fm b) half count slots b before after r
+    pub wait-in : (after : List ℕ) (r : Maybe ℕ) → true ≡ Runs.any_alive (machine g fm) (conf g fm b) n 8
+        → Within g fm half slots (waiting_in g fm half count before) (thread g fm b ∷ []) after r
         → Within g fm half slots (waiting_in g fm half count before) (keep (Runs.hopeful (machine g fm) n) (thread g fm b ∷ [])) after r
     unfolding keep Runs.hopeful
-    wait-in after r w e o i =
-        subst (λ z. Within g fm half slots (waiting_in g fm half count before) (only z (thread g fm b) []) after r) e
-        (within-one count b before after r h k w o i)
+    wait-in after r e w = subst (λ z. Within g fm half slots (waiting_in g fm half count before) (only z (thread g fm b) []) after r) e w
 
-    pub wait-out : false ≡ Runs.any_alive (machine g fm) (conf g fm b) n 8
-        → Within g fm half slots (waiting_in g fm half count before) (keep (Runs.hopeful (machine g fm) n) (thread g fm b ∷ [])) before count
+    pub wait-out : Kept g fm half count before → false ≡ Runs.any_alive (machine g fm) (conf g fm b) n 8
+        → Within g fm half slots (waiting_in g fm half count before) (keep (Runs.hopeful (machine g fm) n) (thread g fm b ∷ [])) before (Some count)
     unfolding keep Runs.hopeful
-    wait-out e =
-        subst (λ z. Within g fm half slots (waiting_in g fm half count before) (only z (thread g fm b) []) before count) e (within_none count before [] refl h k)
+    wait-out k e =
+        subst (λ z. Within g fm half slots (waiting_in g fm half count before) (only z (thread g fm b) []) before (Some count)) e
+        (within_none count before [] refl k)
+
+-- one thread was inserted where it was found
+pub insert-by : (s : Scene) (z : Seats) (b : Thread) (before after : List ℕ) (at r : Maybe ℕ) → z.half < 2 → FoundIs s z b before at
+    → InsertedAt z.half z.count z.slots at b before after r → InsertIs s z b before after r
+insert-by s z b before after at None two found i = (
+  grown-insert z.half z.count z.slots before after (z.slots + 1) None two tt i.around,
+  λ g fm stands k w.
+      one-over g fm z.half z.slots z.count b before after (z.slots + 1) (i.inserted (same_as g fm b) (found g fm stands k w.fit)) (omega arith),
+)
+insert-by s z b before after at (Some r) two found i =
+    let h : r ≤ z.slots = omega (arith, (found-below (z.slots + 1) r r i.within).1) in (
+      grown-insert z.half z.count z.slots before after r (Some r) two h i.around,
+      λ g fm stands k w.
+          one-fits g fm z.half z.slots z.count b before after r (i.inserted (same_as g fm b) (found g fm stands k w.fit)) k w h,
+    )

@@ -3,15 +3,17 @@
 
 mod gathered;
 mod insertion;
+mod scene;
 mod step;
 pub mod table;
 
-ghost use Rattle.std.specs.Prelude.{◌≡◌, false, ◌+◌, ◌*◌, ◌≤◌, ◌<◌, leb, eqb, length, get_or};
+ghost use Rattle.std.specs.Prelude.{◌≡◌, false, IfSome, ◌+◌, ◌-◌, ◌*◌, ◌≤◌, ◌<◌, leb, eqb, length, get_or};
 ghost use Rattle.threads.specs.inner.Event.{Seated, EndingIs, SettledIs};
 ghost use Rattle.threads.specs.inner.Calls.{MovedIs, LowestByIs, ChoiceIs, BetterIs, MayEndIs, EndedIs, WaitsIs, OfferIs, OfferMoveIs, OfferMovesIs, RemainIs, IdlesIs, SiftOneIs, SiftIs, MergeIs};
 ghost use Rattle.slots.specs.inner.Words.{thread_at, place};
 
 use event_log::{Event, Latest};
+pub use scene::Scene;
 use slots::Thread;
 
 // What stays from event to event: the kind of each state (0 ordinary, 1 committed, 2 accept, 3 reject), which fields
@@ -22,6 +24,36 @@ pub struct Rules {
     pub rises: [bool; 8],
     pub fields: usize,
     pub lasting: [bool; 16],
+}
+
+impl Rules {
+    // The kind of a state.
+    fn kind_of(&self, state: u32) -> u32
+        ensures { result ≡ get_or self.now.kinds state 0 }
+    {
+        base::get_or(&self.kinds, state as usize, 0)
+    }
+
+    // Whether a state accepts or rejects.
+    fn is_final(&self, state: u32) -> bool
+        ensures { result ≡ leb 2 (get_or self.now.kinds state 0) }
+    {
+        2 <= self.kind_of(state)
+    }
+
+    // Whether a state is committed.
+    fn is_committed(&self, state: u32) -> bool
+        ensures { result ≡ eqb (get_or self.now.kinds state 0) 1 }
+    {
+        self.kind_of(state) == 1
+    }
+
+    // Whether a state is marked as one some step of which never expires.
+    fn is_lasting(&self, state: u32) -> bool
+        ensures { result ≡ get_or self.now.lasting state false }
+    {
+        base::get_or(&self.lasting, state as usize, false)
+    }
 }
 
 // An event with its number, and the values by which steps are judged expired after it.
@@ -40,20 +72,6 @@ pub struct Seats {
     pub slots: usize,
 }
 
-// The least thread so far, if one was found.
-#[derive(Clone, Copy)]
-pub struct Best {
-    pub found: bool,
-    pub thread: Thread,
-}
-
-// Whether a step fires, and the thread that it leaves.
-#[derive(Clone, Copy)]
-pub struct Move {
-    pub fires: bool,
-    pub thread: Thread,
-}
-
 // The steps that a thread may take on an event, those numbered from `from` on and below `to`, and whether it may stay.
 #[derive(Clone, Copy)]
 struct Choice {
@@ -69,581 +87,280 @@ struct Sifted {
     moved: usize,
 }
 
-// The kind of a state.
-fn kind_of(rules: Rules, state: u32) -> u32
-    ensures { result ≡ get_or rules.kinds state 0 }
-{
-    let at = state as usize;
-    if at < 16 {
-        return rules.kinds[at];
-    }
-    0
-}
-
-// Whether a state accepts or rejects.
-fn is_final(rules: Rules, state: u32) -> bool
-    ensures { result ≡ leb 2 (get_or rules.kinds state 0) }
-{
-    let kind = kind_of(rules, state);
-    2 <= kind
-}
-
-// Whether a state is committed.
-fn is_committed(rules: Rules, state: u32) -> bool
-    ensures { result ≡ eqb (get_or rules.kinds state 0) 1 }
-{
-    let kind = kind_of(rules, state);
-    kind == 1
-}
-
-// Whether a state is marked as one some step of which never expires.
-fn is_lasting(rules: Rules, state: u32) -> bool
-    ensures { result ≡ get_or rules.lasting state false }
-{
-    let at = state as usize;
-    if at < 16 {
-        return rules.lasting[at];
-    }
-    false
-}
-
-// Step k of a thread's state on the event: whether it fires, and the thread with that step taken.
-fn moved(
-    l: &[u8],
-    places: &[usize],
-    f: &[u8],
-    table: &[usize],
-    rules: Rules,
-    moment: Moment,
-    t: Thread,
-    k: u32,
-) -> Move
-    requires { (moment.number < 1024) × (k < 8) }
-    ensures { MovedIs l.now places.now f.now table.now rules moment t k result }
-{
-    let fired = step::fires_at(l, places, f, table, rules, moment, t, k);
-    let next = fired.thread;
-    if fired.fires {
-        if next.steps < 32 {
-            let thread = slots::with_step(next, moment.number, k);
-            return Move {
-                fires: true,
-                thread,
-            };
-        }
-    }
-    Move {
-        fires: false,
-        thread: next,
-    }
-}
-
-// The number of the lowest numbered step of a thread in a committed state that fires on the event, 8 if none does; `endless` says that it is
-// known to end no run there, so that steps that end runs need not be tried.
-fn lowest_by(
-    l: &[u8],
-    places: &[usize],
-    f: &[u8],
-    table: &[usize],
-    rules: Rules,
-    moment: Moment,
-    t: Thread,
-    endless: bool,
-) -> u32
-    ensures { LowestByIs l.now places.now f.now table.now rules moment t endless result }
-{
-    if endless {
-        return step::first_taken(l, places, f, table, rules, moment, t, false);
-    }
-    step::lowest_at(l, places, f, table, rules, moment, t)
-}
-
-// What a thread may do on the event: in a committed state the lowest numbered step that fires is taken; else each step, and
-// once the first step is taken they may be passed over. `endless` says that it is known to end no run there.
-fn choice_of(
-    l: &[u8],
-    places: &[usize],
-    f: &[u8],
-    table: &[usize],
-    rules: Rules,
-    moment: Moment,
-    t: Thread,
-    endless: bool,
-) -> Choice
-    ensures { ChoiceIs l.now places.now f.now table.now rules moment t endless result }
-{
-    let begun = 0 < t.steps;
-    if is_committed(rules, t.config.state) {
-        let k = lowest_by(l, places, f, table, rules, moment, t, endless);
-        if k < 8 {
-            return Choice {
-                from: k,
-                to: k + 1,
-                stays: false,
-            };
-        }
-        return Choice {
-            from: 8,
-            to: 8,
-            stays: begun,
-        };
-    }
-    Choice {
-        from: 0,
-        to: 8,
-        stays: begun,
-    }
-}
-
-// The lesser of the best so far and of the run that ends on the event by step k, if one does.
-fn better(
-    best: Best,
-    l: &[u8],
-    places: &[usize],
-    f: &[u8],
-    table: &[usize],
-    rules: Rules,
-    moment: Moment,
-    t: Thread,
-    k: u32,
-) -> Best
-    requires { (moment.number < 1024) × (k < 8) }
-    ensures { BetterIs l.now places.now f.now table.now rules moment best t k result }
-{
-    if !step::ends_by(f, table, rules, t.config.state, k) {
-        return best;
-    }
-    let next = moved(l, places, f, table, rules, moment, t, k);
-    let thread = next.thread;
-    if !next.fires {
-        return best;
-    }
-    if best.found {
-        let least = best.thread;
-        if !slots::later(least, thread) {
-            return best;
-        }
-    }
-    Best {
-        found: true,
-        thread,
-    }
-}
-
-// The least of the best so far and of the runs that end on the event by a step of a thread.
-fn ending_of(
-    best: Best,
-    l: &[u8],
-    places: &[usize],
-    f: &[u8],
-    table: &[usize],
-    rules: Rules,
-    moment: Moment,
-    t: Thread,
-) -> Best
-    requires { moment.number < 1024 }
-    ensures { EndedIs l.now places.now f.now table.now rules moment best t result }
-{
-    let choice = choice_of(l, places, f, table, rules, moment, t, false);
-    let to = choice.to;
-    let mut least = best;
-    let mut k = choice.from;
-    while k < to {
-        least = better(least, l, places, f, table, rules, moment, t, k);
-        k += 1;
-    }
-    least
-}
-
-// Whether a step of a slot's thread may end a run on the event, as far as its state and the variables that it holds tell.
-fn may_end(
-    work: &[u32],
-    slot: usize,
-    half: usize,
-    f: &[u8],
-    table: &[usize],
-    rules: Rules,
-    moment: Moment,
-) -> bool
-    requires { (slot * 192 + 192 ≤ length work.now) × (half < 2) }
-    ensures { MayEndIs f.now table.now rules moment (thread_at work.now (place half slot)) result }
-{
-    let s = slots::state_at(work, slot, half);
-    if table::is_quiet(table, s) {
-        return false;
-    }
-    let kinds = rules.kinds;
-    let event = moment.event;
-    let values = event.values;
-    let there = event.present;
-    let bound = slots::bound_at(work, slot, half);
-    let held = bound.held;
-    let prior = bound.values;
-    step::can_end(f, table, &kinds, s, &held, &prior, &values, &there)
-}
-
-// The least of the best so far and of the runs that end on the event by a step of a slot's thread. Its trail is compared only where one
-// does.
-fn ending_at(
-    best: Best,
-    work: &[u32],
-    seats: Seats,
-    l: &[u8],
-    places: &[usize],
-    f: &[u8],
-    table: &[usize],
-    rules: Rules,
-    moment: Moment,
-    j: usize,
-) -> Best
-    requires { Seated seats work.now × (moment.number < 1024) × (j < seats.count) }
-    ensures { EndedIs l.now places.now f.now table.now rules moment best (thread_at work.now (place seats.half j)) result }
-{
-    let t = slots::load_slot(work, j, seats.half);
-    if 8 <= step::first_taken(l, places, f, table, rules, moment, t, true) {
-        return best;
-    }
-    ending_of(best, l, places, f, table, rules, moment, t)
-}
-
-// The least run that ends on the event, of the threads that wait. One that cannot end a run is not loaded.
-pub fn ending(
-    work: &[u32],
-    seats: Seats,
-    l: &[u8],
-    places: &[usize],
-    f: &[u8],
-    table: &[usize],
-    rules: Rules,
-    moment: Moment,
-) -> Best
-    requires { Seated seats work.now × (moment.number < 1024) }
-    ensures { EndingIs l.now places.now f.now table.now rules moment seats work.now result }
-{
-    let mut best = Best {
-        found: false,
-        thread: slots::origin(),
-    };
-    let mut next: usize = 0;
-    while next < seats.count {
-        let j = next;
-        next += 1;
-        if !may_end(work, j, seats.half, f, table, rules, moment) {
-            continue;
-        }
-        best = ending_at(best, work, seats, l, places, f, table, rules, moment, j);
-    }
-    best
-}
-
-// Inserts a thread into a list, if some step of its state is not expired after the event.
-fn wait(
-    work: &mut [u32],
-    seats: Seats,
-    l: &[u8],
-    places: &[usize],
-    f: &[u8],
-    table: &[usize],
-    rules: Rules,
-    moment: Moment,
-    b: Thread,
-) -> usize
-    requires { Seated seats work.old }
-    ensures { WaitsIs l.now places.now f.now table.now rules moment seats b work.old work.new result }
-{
-    if step::hopeful_at(l, places, f, table, rules, moment, b) {
-        return insertion::insert(work, seats, l, places, f, table, rules, b);
-    }
-    seats.count
-}
-
-// Inserts a thread that a step has left, if it may wait: it has not ended, in at most 31 steps, and some step of its state is
-// not expired.
-fn offer(
-    work: &mut [u32],
-    seats: Seats,
-    l: &[u8],
-    places: &[usize],
-    f: &[u8],
-    table: &[usize],
-    rules: Rules,
-    moment: Moment,
-    b: Thread,
-) -> usize
-    requires { Seated seats work.old }
-    ensures { OfferIs l.now places.now f.now table.now rules moment seats b work.old work.new result }
-{
-    if is_final(rules, b.config.state) {
-        return seats.count;
-    }
-    if 32 <= b.steps {
-        return seats.count;
-    }
-    wait(work, seats, l, places, f, table, rules, moment, b)
-}
-
-// Offers what step k of a thread's state leaves on the event.
-fn offer_move(
-    work: &mut [u32],
-    seats: Seats,
-    l: &[u8],
-    places: &[usize],
-    f: &[u8],
-    table: &[usize],
-    rules: Rules,
-    moment: Moment,
-    t: Thread,
-    k: u32,
-) -> usize
-    requires { Seated seats work.old × (moment.number < 1024) × (k < 8) }
-    ensures { OfferMoveIs l.now places.now f.now table.now rules moment seats t k work.old work.new result }
-{
-    if step::ends_by(f, table, rules, t.config.state, k) {
-        return seats.count;
-    }
-    let next = moved(l, places, f, table, rules, moment, t, k);
-    let b = next.thread;
-    if next.fires {
-        return offer(work, seats, l, places, f, table, rules, moment, b);
-    }
-    seats.count
-}
-
-// Offers what the steps that a thread may take leave, by rising step number; it stops where one more slot is needed.
-fn offer_moves(
-    work: &mut [u32],
-    seats: Seats,
-    l: &[u8],
-    places: &[usize],
-    f: &[u8],
-    table: &[usize],
-    rules: Rules,
-    moment: Moment,
-    t: Thread,
-    choice: Choice,
-) -> usize
-    requires { Seated seats work.old × (moment.number < 1024) × (choice.to ≤ 8) }
-    ensures { OfferMovesIs l.now places.now f.now table.now rules moment seats t choice work.old work.new result }
-{
-    let kinds = rules.kinds;
-    let config = t.config;
-    let held = config.held;
-    let prior = config.values;
-    let event = moment.event;
-    let values = event.values;
-    let there = event.present;
-    let mut count = seats.count;
-    let mut next = choice.from;
-    while next < choice.to {
-        let k = next;
-        next += 1;
-        if !step::may(
-            f,
-            table,
-            &kinds,
-            config.state,
-            k,
-            false,
-            &held,
-            &prior,
-            &values,
-            &there,
-        ) {
-            continue;
-        }
-        let grown = Seats {
-            half: seats.half,
-            count,
-            slots: seats.slots,
-        };
-        count = offer_move(work, grown, l, places, f, table, rules, moment, t, k);
-        if seats.slots < count {
-            return count;
-        }
-    }
-    count
-}
-
-// Keeps the thread of slot j at the end of a list in its half, which ends before it, if it may stay and some step of its state is not
-// expired. The count of the list then.
-fn remain(
-    work: &mut [u32],
-    seats: Seats,
-    l: &[u8],
-    places: &[usize],
-    f: &[u8],
-    table: &[usize],
-    rules: Rules,
-    moment: Moment,
-    t: Thread,
-    stays: bool,
-    j: usize,
-) -> usize
-    requires { Seated seats work.old × (seats.count ≤ j) × (j < seats.slots) × (t ≡ thread_at work.old (place seats.half j)) }
-    ensures { RemainIs l.now places.now f.now table.now rules moment seats t stays j work.old work.new result }
-{
-    if stays {
-        if step::hopeful_at(l, places, f, table, rules, moment, t) {
-            slots::keep_slot(work, seats.half, seats.count, j, t);
-            return seats.count + 1;
-        }
-    }
-    seats.count
-}
-
 // Whether the thread of a slot can do nothing on the event but wait, as its state and its number of steps say. For speed alone: a
 // function that never says so would meet the contract.
-fn idles(work: &[u32], slot: usize, half: usize, table: &[usize], rules: Rules) -> bool
+fn idles(work: &[u32], slot: usize, half: usize, table: &[usize], rules: &Rules) -> bool
     requires { (slot * 192 + 192 ≤ length work.now) × (half < 2) }
-    ensures { IdlesIs table.now rules (thread_at work.now (place half slot)) result }
+    ensures { IdlesIs table.now rules.now (thread_at work.now (place half slot)) result }
 {
     if slots::steps_at(work, slot, half) == 0 {
         return false;
     }
     let s = slots::state_at(work, slot, half);
-    if is_lasting(rules, s) {
-        return table::is_quiet(table, s);
-    }
-    false
+    rules.is_lasting(s) && table::is_quiet(table, s)
 }
 
-// Sifts the thread of slot j on an event on which no thread ends a run: if it stays it becomes the last of those that do, in the front of
-// the half; what its moves leave that may wait is inserted into the list in the other half. A thread that idles, with none dropped
-// before it, is not loaded.
-fn sift_one(
-    work: &mut [u32],
-    seats: Seats,
-    l: &[u8],
-    places: &[usize],
-    f: &[u8],
-    table: &[usize],
-    rules: Rules,
-    moment: Moment,
-    done: Sifted,
-    j: usize,
-) -> Sifted
-    requires { Seated seats work.old × (moment.number < 1024) × (done.stayed ≤ j) × (done.moved ≤ seats.slots) × (j < seats.count) }
-    ensures { SiftOneIs l.now places.now f.now table.now rules moment seats done j work.old work.new result }
-{
-    if done.stayed == j {
-        if idles(&work[..], j, seats.half, table, rules) {
-            return Sifted {
-                stayed: done.stayed + 1,
-                moved: done.moved,
+impl Scene<'_> {
+    // Step k of a thread's state on the event: the thread with that step taken, if it fires.
+    fn moved(&self, t: &Thread, k: u32) -> Option<Thread>
+        requires { k < 8 }
+        ensures { MovedIs self.now t.now k result }
+    {
+        let next = self.fires_at(t, k)?;
+        if next.steps < 32 {
+            Some(slots::with_step(next, self.moment.number, k))
+        } else {
+            None
+        }
+    }
+
+    // The number of the lowest numbered step of a thread in a committed state that fires on the event; `endless` says that it is
+    // known to end no run there, so that steps that end runs need not be tried.
+    fn lowest_by(&self, t: &Thread, endless: bool) -> Option<u32>
+        ensures { LowestByIs self.now t.now endless result }
+    {
+        if endless {
+            self.first_taken(t, false)
+        } else {
+            self.lowest_at(t)
+        }
+    }
+
+    // What a thread may do on the event: in a committed state the lowest numbered step that fires is taken; else each step, and
+    // once the first step is taken they may be passed over. `endless` says that it is known to end no run there.
+    fn choice_of(&self, t: &Thread, endless: bool) -> Choice
+        ensures { ChoiceIs self.now t.now endless result }
+    {
+        let begun = 0 < t.steps;
+        if !self.rules.is_committed(t.config.state) {
+            return Choice {
+                from: 0,
+                to: 8,
+                stays: begun,
             };
         }
-    }
-    let t = slots::load_slot(&work[..], j, seats.half);
-    let choice = choice_of(l, places, f, table, rules, moment, t, true);
-    let next = Seats {
-        half: 1 - seats.half,
-        count: done.moved,
-        slots: seats.slots,
-    };
-    let moved = offer_moves(work, next, l, places, f, table, rules, moment, t, choice);
-    if seats.slots < moved {
-        return Sifted {
-            stayed: done.stayed,
-            moved,
-        };
-    }
-    let kept = Seats {
-        half: seats.half,
-        count: done.stayed,
-        slots: seats.slots,
-    };
-    let stays = choice.stays;
-    let stayed = remain(work, kept, l, places, f, table, rules, moment, t, stays, j);
-    Sifted { stayed, moved }
-}
-
-// Sifts a waiting list on the event, thread by thread; it stops where what moved needs one more slot.
-fn sift(
-    work: &mut [u32],
-    seats: Seats,
-    l: &[u8],
-    places: &[usize],
-    f: &[u8],
-    table: &[usize],
-    rules: Rules,
-    moment: Moment,
-) -> Sifted
-    requires { Seated seats work.old × (moment.number < 1024) }
-    ensures { SiftIs l.now places.now f.now table.now rules moment seats work.old work.new result }
-{
-    let mut sifted = Sifted {
-        stayed: 0,
-        moved: 0,
-    };
-    let mut j: usize = 0;
-    while j < seats.count {
-        sifted = sift_one(work, seats, l, places, f, table, rules, moment, sifted, j);
-        if seats.slots < sifted.moved {
-            return sifted;
+        match self.lowest_by(t, endless) {
+            Some(k) => Choice {
+                from: k,
+                to: k + 1,
+                stays: false,
+            },
+            None => Choice {
+                from: 8,
+                to: 8,
+                stays: begun,
+            },
         }
-        j += 1;
     }
-    sifted
-}
 
-// Inserts the threads of the other half into the list of one half, one by one; it stops where one more slot is needed. The count of the
-// list then, one more than the slots where it stopped.
-fn merge(
-    work: &mut [u32],
-    seats: Seats,
-    more: usize,
-    l: &[u8],
-    places: &[usize],
-    f: &[u8],
-    table: &[usize],
-    rules: Rules,
-) -> usize
-    requires { Seated seats work.old × (more ≤ seats.slots) }
-    ensures { MergeIs l.now places.now f.now table.now rules seats more work.old work.new result }
-{
-    let other = 1 - seats.half;
-    let mut count = seats.count;
-    let mut i: usize = 0;
-    while i < more {
-        let b = slots::load_slot(&work[..], i, other);
-        let grown = Seats {
-            half: seats.half,
-            count,
-            slots: seats.slots,
-        };
-        count = insertion::insert(work, grown, l, places, f, table, rules, b);
-        if seats.slots < count {
-            return count;
+    // Makes the run that ends on the event by step k the best, if one does and it is the first or the lesser.
+    fn better(&self, best: &mut Option<Thread>, t: &Thread, k: u32)
+        requires { k < 8 }
+        ensures { BetterIs self.now best.old t.now k best.new }
+    {
+        if !self.ends_by(t.config.state, k) {
+            return;
         }
-        i += 1;
+        let Some(thread) = self.moved(t, k) else {
+            return;
+        };
+        if let Some(least) = *best {
+            if !slots::later(least, thread) {
+                return;
+            }
+        }
+        *best = Some(thread);
     }
-    count
-}
 
-// The waiting list after an event on which no run ends, in the half of the one before it: threads that stay are distinct, so only what
-// moved is inserted. Its count, one more than the slots where it needs more.
-pub fn settle(
-    work: &mut [u32],
-    seats: Seats,
-    l: &[u8],
-    places: &[usize],
-    f: &[u8],
-    table: &[usize],
-    rules: Rules,
-    moment: Moment,
-) -> usize
-    requires { Seated seats work.old × (moment.number < 1024) }
-    ensures settled_is { SettledIs l.now places.now f.now table.now rules moment seats work.old work.new result }
-    ensures upper_bound { (result ≤ seats.slots + 1) × (length work.new ≡ length work.old) }
-{
-    let sifted = sift(work, seats, l, places, f, table, rules, moment);
-    if seats.slots < sifted.moved {
-        return sifted.moved;
+    // Makes the least of the runs that end on the event by a step of a thread the best, if it is the first or the lesser.
+    fn ending_of(&self, best: &mut Option<Thread>, t: &Thread)
+        ensures { EndedIs self.now best.old t.now best.new }
+    {
+        let choice = self.choice_of(t, false);
+        for k in choice.from..choice.to {
+            self.better(best, t, k);
+        }
     }
-    let kept = Seats {
-        half: seats.half,
-        count: sifted.stayed,
-        slots: seats.slots,
-    };
-    merge(work, kept, sifted.moved, l, places, f, table, rules)
+
+    // Whether a step of a slot's thread may end a run on the event, as far as its state and the variables that it holds tell.
+    fn may_end(&self, work: &[u32], slot: usize, half: usize) -> bool
+        requires { (slot * 192 + 192 ≤ length work.now) × (half < 2) }
+        ensures { MayEndIs self.now (thread_at work.now (place half slot)) result }
+    {
+        let s = slots::state_at(work, slot, half);
+        if table::is_quiet(self.table, s) {
+            return false;
+        }
+        let bound = slots::bound_at(work, slot, half);
+        self.can_end(s, &bound.held, &bound.values)
+    }
+
+    // The same of the thread of a slot. Its trail is compared only where a run ends.
+    fn ending_at(&self, best: &mut Option<Thread>, work: &[u32], seats: Seats, j: usize)
+        requires { Seated seats work.now × (j < seats.count) }
+        ensures { EndedIs self.now best.old (thread_at work.now (place seats.half j)) best.new }
+    {
+        let t = slots::load_slot(work, j, seats.half);
+        if self.first_taken(&t, true).is_some() {
+            self.ending_of(best, &t);
+        }
+    }
+
+    // The least run that ends on the event, of the threads that wait. One that cannot end a run is not loaded.
+    pub fn ending(&self, work: &[u32], seats: Seats) -> Option<Thread>
+        requires { Seated seats work.now }
+        ensures { EndingIs self.now seats work.now result }
+    {
+        let mut best = None;
+        for j in 0..seats.count {
+            if self.may_end(work, j, seats.half) {
+                self.ending_at(&mut best, work, seats, j);
+            }
+        }
+        best
+    }
+
+    // Inserts a thread into a list, if some step of its state is not expired after the event.
+    fn wait(&self, work: &mut [u32], seats: Seats, b: &Thread) -> Option<usize>
+        requires { Seated seats work.old }
+        ensures { WaitsIs self.now seats b.now work.old work.new result }
+    {
+        if self.hopeful_at(b) {
+            self.insert(work, seats, b)
+        } else {
+            Some(seats.count)
+        }
+    }
+
+    // Inserts a thread that a step has left, if it may wait: it has not ended, in at most 31 steps, and some step of its state is
+    // not expired.
+    fn offer(&self, work: &mut [u32], seats: Seats, b: &Thread) -> Option<usize>
+        requires { Seated seats work.old }
+        ensures { OfferIs self.now seats b.now work.old work.new result }
+    {
+        if self.rules.is_final(b.config.state) || 32 <= b.steps {
+            return Some(seats.count);
+        }
+        self.wait(work, seats, b)
+    }
+
+    // Offers what step k of a thread's state leaves on the event.
+    fn offer_move(&self, work: &mut [u32], seats: Seats, t: &Thread, k: u32) -> Option<usize>
+        requires { Seated seats work.old × (k < 8) }
+        ensures { OfferMoveIs self.now seats t.now k work.old work.new result }
+    {
+        if self.ends_by(t.config.state, k) {
+            return Some(seats.count);
+        }
+        match self.moved(t, k) {
+            Some(b) => self.offer(work, seats, &b),
+            None => Some(seats.count),
+        }
+    }
+
+    // Offers what the steps that a thread may take leave, by rising step number; none where one more slot is needed.
+    fn offer_moves(
+        &self,
+        work: &mut [u32],
+        seats: Seats,
+        t: &Thread,
+        choice: Choice,
+    ) -> Option<usize>
+        requires { Seated seats work.old × (choice.to ≤ 8) }
+        ensures { OfferMovesIs self.now seats t.now choice work.old work.new result }
+    {
+        let mut count = seats.count;
+        for k in choice.from..choice.to {
+            if self.may(t.config.state, &t.config.held, &t.config.values, k, false) {
+                count = self.offer_move(work, Seats { count, ..seats }, t, k)?;
+            }
+        }
+        Some(count)
+    }
+
+    // Keeps the thread of slot j at the end of a list in its half, which ends before it, if it may stay and some step of its state is not
+    // expired. The count of the list then.
+    fn remain(&self, work: &mut [u32], seats: Seats, t: &Thread, stays: bool, j: usize) -> usize
+        requires { Seated seats work.old × (seats.count ≤ j) × (j < seats.slots) × (t.now ≡ thread_at work.old (place seats.half j)) }
+        ensures { RemainIs self.now seats t.now stays j work.old work.new result }
+    {
+        if stays && self.hopeful_at(t) {
+            slots::keep_slot(work, seats.half, seats.count, j, *t);
+            return seats.count + 1;
+        }
+        seats.count
+    }
+
+    // Sifts the thread of slot j on an event on which no thread ends a run: if it stays it becomes the last of those that do, in the front of
+    // the half; what its moves leave that may wait is inserted into the list in the other half. A thread that idles, with none dropped
+    // before it, is not loaded. None where what moved needs one more slot.
+    fn sift_one(&self, work: &mut [u32], seats: Seats, done: Sifted, j: usize) -> Option<Sifted>
+        requires { Seated seats work.old × (done.stayed ≤ j) × (done.moved ≤ seats.slots) × (j < seats.count) }
+        ensures { SiftOneIs self.now seats done j work.old work.new result }
+    {
+        if done.stayed == j && idles(work, j, seats.half, self.table, &self.rules) {
+            return Some(Sifted {
+                stayed: done.stayed + 1,
+                ..done
+            });
+        }
+        let t = slots::load_slot(work, j, seats.half);
+        let choice = self.choice_of(&t, true);
+        let across = Seats {
+            half: 1 - seats.half,
+            count: done.moved,
+            ..seats
+        };
+        let moved = self.offer_moves(work, across, &t, choice)?;
+        let front = Seats {
+            count: done.stayed,
+            ..seats
+        };
+        let stayed = self.remain(work, front, &t, choice.stays, j);
+        Some(Sifted { stayed, moved })
+    }
+
+    // Sifts a waiting list on the event, thread by thread; none where what moved needs one more slot.
+    fn sift(&self, work: &mut [u32], seats: Seats) -> Option<Sifted>
+        requires { Seated seats work.old }
+        ensures { SiftIs self.now seats work.old work.new result }
+    {
+        let mut sifted = Sifted {
+            stayed: 0,
+            moved: 0,
+        };
+        for j in 0..seats.count {
+            sifted = self.sift_one(work, seats, sifted, j)?;
+        }
+        Some(sifted)
+    }
+
+    // Inserts the threads of the other half into the list of one half, one by one. The count of the list then, none where one more slot is
+    // needed.
+    fn merge(&self, work: &mut [u32], seats: Seats, more: usize) -> Option<usize>
+        requires { Seated seats work.old × (more ≤ seats.slots) }
+        ensures { MergeIs self.now seats more work.old work.new result }
+    {
+        let mut count = seats.count;
+        for i in 0..more {
+            let b = slots::load_slot(work, i, 1 - seats.half);
+            count = self.insert(work, Seats { count, ..seats }, &b)?;
+        }
+        Some(count)
+    }
+
+    // The waiting list after an event on which no run ends, in the half of the one before it: threads that stay are distinct, so only what
+    // moved is inserted. Its count, none where it needs one more slot than there are.
+    pub fn settle(&self, work: &mut [u32], seats: Seats) -> Option<usize>
+        requires { Seated seats work.old }
+        ensures settled_is { SettledIs self.now seats work.old work.new result }
+        ensures upper_bound { IfSome result (λ n. n ≤ seats.slots) × (length work.new ≡ length work.old) }
+    {
+        let sifted = self.sift(work, seats)?;
+        let front = Seats {
+            count: sifted.stayed,
+            ..seats
+        };
+        self.merge(work, front, sifted.moved)
+    }
 }

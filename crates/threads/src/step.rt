@@ -1,220 +1,108 @@
 // One step of a thread, by the code over the formula's bytes.
-ghost use Rattle.std.specs.Prelude.{◌≡◌, true, not};
-ghost use Rattle.event_log.specs.Event.{together};
 ghost use Rattle.threads.specs.inner.Calls.{EndsIs, MayIs, CanEndIs, FirstTakenIs, FiresIs, LowestIs, HopefulIs};
 
-use crate::gathered::fresh_at;
-use crate::{Moment, Move, Rules};
+use crate::Scene;
+use machine_code::firing::{fire, passes};
+use machine_code::steps::{hopeful, lowest, step_offset};
 use slots::Thread;
 
-// Whether step k of a state leads to a state that accepts or rejects: such a step ends runs and leaves nothing to wait.
-pub fn ends_by(f: &[u8], table: &[usize], rules: Rules, state: u32, k: u32) -> bool
-    ensures { EndsIs f.now table.now rules state k result }
-{
-    let at = machine_code::steps::step_offset(table, state, k as usize);
-    if at < f.len() {
-        return crate::is_final(rules, base::byte_at(f, at + 1));
+impl Scene<'_> {
+    // Whether step k of a state leads to a state that accepts or rejects: such a step ends runs and leaves nothing to wait.
+    pub fn ends_by(&self, state: u32, k: u32) -> bool
+        ensures { EndsIs self.now state k result }
+    {
+        let at = step_offset(self.table, state, k as usize);
+        at < self.formula.len() && self.rules.is_final(base::byte_at(self.formula, at + 1))
     }
-    false
-}
 
-// Whether two tests differ.
-fn differ(a: bool, b: bool) -> bool
-    ensures { result ≡ true → a ≡ not b }
-{
-    if a { !b } else { b }
-}
+    // Whether step k of a state may end runs on the event, or, with `ends` false, may leave what waits, as far as its target, the event's
+    // table and the variables that a thread holds tell. For speed alone: one that says so of every step in the table would meet the contract.
+    pub fn may(&self, state: u32, held: &[bool; 8], prior: &[u32; 8], k: u32, ends: bool) -> bool
+        ensures { MayIs self.now state held.now prior.now k ends result }
+    {
+        let at = step_offset(self.table, state, k as usize);
+        if at == 0 || self.formula.len() <= at {
+            return false;
+        }
+        let kind = self.rules.kind_of(base::byte_at(self.formula, at + 1));
+        if (2 <= kind) != ends {
+            return false;
+        }
+        let event = &self.moment.event;
+        !machine_code::marks::bars(self.formula, at, held, prior, &event.values, &event.present)
+    }
 
-// Whether step k of a state may end runs on the event, or, with `ends` false, may leave what waits, as far as its target, the event's
-// table and the variables that a thread holds tell. For speed alone: one that says so of every step in the table would meet the contract.
-pub fn may(
-    f: &[u8],
-    table: &[usize],
-    kinds: &[u32; 16],
-    state: u32,
-    k: u32,
-    ends: bool,
-    held: &[bool; 8],
-    prior: &[u32; 8],
-    values: &[u32; 8],
-    there: &[bool; 8],
-) -> bool
-    ensures { MayIs f.now table.now kinds.now state held.now prior.now (together there.now values.now) k ends result }
-{
-    let at = machine_code::steps::step_offset(table, state, k as usize);
-    if at == 0 {
-        return false;
+    // Whether some step of a state may end runs on the event.
+    pub fn can_end(&self, state: u32, held: &[bool; 8], prior: &[u32; 8]) -> bool
+        ensures { CanEndIs self.now state held.now prior.now result }
+    {
+        for k in 0..8 {
+            if self.may(state, held, prior, k, true) {
+                return true;
+            }
+        }
+        false
     }
-    if f.len() <= at {
-        return false;
-    }
-    let kind = guard_code::guard::value_of(kinds, base::byte_at(f, at + 1));
-    if differ(2 <= kind, ends) {
-        return false;
-    }
-    !machine_code::marks::bars(f, at, held, prior, values, there)
-}
 
-// Whether some step of a state may end runs on the event.
-pub fn can_end(
-    f: &[u8],
-    table: &[usize],
-    kinds: &[u32; 16],
-    state: u32,
-    held: &[bool; 8],
-    prior: &[u32; 8],
-    values: &[u32; 8],
-    there: &[bool; 8],
-) -> bool
-    ensures { CanEndIs f.now table.now kinds.now state held.now prior.now (together there.now values.now) result }
-{
-    let mut k: u32 = 0;
-    while k < 8 {
-        if may(f, table, kinds, state, k, true, held, prior, values, there) {
+    // The number of the lowest numbered step of a thread's state that fires on the event and ends a run, or, with `ends` false, that fires
+    // and ends none.
+    pub fn first_taken(&self, t: &Thread, ends: bool) -> Option<u32>
+        ensures { FirstTakenIs self.now t.now ends result }
+    {
+        let config = &t.config;
+        let fresh = self.fresh_at(t, &self.moment.event.values);
+        for k in 0..8 {
+            if !self.may(config.state, &config.held, &config.values, k, ends) {
+                continue;
+            }
+            let at = step_offset(self.table, config.state, k as usize);
+            if passes(self.formula, at, *config, fresh, self.moment.event) {
+                return Some(k);
+            }
+        }
+        None
+    }
+
+    // Step k of a thread's state on the event: the thread in the configuration that it leaves, its trail as before, if it fires.
+    pub fn fires_at(&self, t: &Thread, k: u32) -> Option<Thread>
+        ensures { FiresIs self.now t.now k result }
+    {
+        let at = step_offset(self.table, t.config.state, k as usize);
+        if at == 0 {
+            return None;
+        }
+        let fresh = self.fresh_at(t, &self.moment.event.values);
+        let config = fire(self.formula, at, t.config, fresh, self.moment.event)?;
+        Some(Thread { config, ..*t })
+    }
+
+    // The number of the lowest numbered step of a thread's state that fires on the event.
+    pub fn lowest_at(&self, t: &Thread) -> Option<u32>
+        ensures { LowestIs self.now t.now result }
+    {
+        let fresh = self.fresh_at(t, &self.moment.event.values);
+        let k = lowest(self.formula, self.table, t.config, fresh, self.moment.event)?;
+        Some(k as u32)
+    }
+
+    // Whether some step of a thread's state is not expired after the event.
+    pub fn hopeful_at(&self, t: &Thread) -> bool
+        ensures { HopefulIs self.now t.now result }
+    {
+        if self.table.len() < 128 {
+            return false;
+        }
+        if self.rules.is_lasting(t.config.state) {
             return true;
         }
-        k += 1;
+        let fresh = self.fresh_at(t, &self.moment.latest.values);
+        hopeful(
+            self.formula,
+            &self.table[128..],
+            t.config,
+            fresh,
+            self.rules.rises,
+            self.moment.latest,
+        )
     }
-    false
-}
-
-// The number of the lowest numbered step of a thread's state that fires on the event and ends a run, or, with `ends` false, that fires
-// and ends none; 8 if there is none.
-pub fn first_taken(
-    l: &[u8],
-    places: &[usize],
-    f: &[u8],
-    table: &[usize],
-    rules: Rules,
-    moment: Moment,
-    t: Thread,
-    ends: bool,
-) -> u32
-    ensures { FirstTakenIs l.now places.now f.now table.now rules moment t ends result }
-{
-    let kinds = rules.kinds;
-    let config = t.config;
-    let held = config.held;
-    let prior = config.values;
-    let event = moment.event;
-    let values = event.values;
-    let there = event.present;
-    let tallies = config.tallies;
-    let trail = t.trail;
-    let fresh = fresh_at(l, places, f, table, rules, tallies, trail, t.steps, values);
-    let mut next: u32 = 0;
-    'steps: loop {
-        let k = next;
-        if 8 <= k {
-            break 'steps 8;
-        }
-        next += 1;
-        if !may(
-            f,
-            table,
-            &kinds,
-            config.state,
-            k,
-            ends,
-            &held,
-            &prior,
-            &values,
-            &there,
-        ) {
-            continue 'steps;
-        }
-        let at = machine_code::steps::step_offset(table, config.state, k as usize);
-        if machine_code::firing::passes(f, at, config, fresh, event) {
-            break 'steps k;
-        }
-    }
-}
-
-// Whether step k of a thread's state fires on the event, and the thread in the configuration that it leaves, its trail as before.
-pub fn fires_at(
-    l: &[u8],
-    places: &[usize],
-    f: &[u8],
-    table: &[usize],
-    rules: Rules,
-    moment: Moment,
-    t: Thread,
-    k: u32,
-) -> Move
-    ensures { FiresIs l.now places.now f.now table.now rules moment t k result }
-{
-    let before = t.config;
-    let at = machine_code::steps::step_offset(table, before.state, k as usize);
-    if at == 0 {
-        return Move {
-            fires: false,
-            thread: t,
-        };
-    }
-    let event = moment.event;
-    let values = event.values;
-    let tallies = before.tallies;
-    let trail = t.trail;
-    let fresh = fresh_at(l, places, f, table, rules, tallies, trail, t.steps, values);
-    let fired = machine_code::firing::fire(f, at, before, fresh, event);
-    let config = fired.config;
-    let thread = Thread {
-        config,
-        steps: t.steps,
-        trail,
-    };
-    Move {
-        fires: fired.fires,
-        thread,
-    }
-}
-
-// The number of the lowest numbered step of a thread's state that fires on the event, 8 if none does.
-pub fn lowest_at(
-    l: &[u8],
-    places: &[usize],
-    f: &[u8],
-    table: &[usize],
-    rules: Rules,
-    moment: Moment,
-    t: Thread,
-) -> u32
-    ensures { LowestIs l.now places.now f.now table.now rules moment t result }
-{
-    let config = t.config;
-    let event = moment.event;
-    let values = event.values;
-    let tallies = config.tallies;
-    let trail = t.trail;
-    let fresh = fresh_at(l, places, f, table, rules, tallies, trail, t.steps, values);
-    let k = machine_code::steps::lowest(f, table, config, fresh, event);
-    k as u32
-}
-
-// Whether some step of a thread's state is not expired after the event.
-pub fn hopeful_at(
-    l: &[u8],
-    places: &[usize],
-    f: &[u8],
-    table: &[usize],
-    rules: Rules,
-    moment: Moment,
-    t: Thread,
-) -> bool
-    ensures { HopefulIs l.now places.now f.now table.now rules moment t result }
-{
-    if table.len() < 128 {
-        return false;
-    }
-    let config = t.config;
-    if crate::is_lasting(rules, config.state) {
-        return true;
-    }
-    let rises = rules.rises;
-    let latest = moment.latest;
-    let values = latest.values;
-    let tallies = config.tallies;
-    let trail = t.trail;
-    let fresh = fresh_at(l, places, f, table, rules, tallies, trail, t.steps, values);
-    machine_code::steps::hopeful(f, &table[128..], config, fresh, rises, latest)
 }

@@ -1,5 +1,5 @@
 -- What the functions of one event are given of the two files: the formula's bytes and what its reader and the log's reader found.
-use Rattle.std.specs.Prelude.{ℕ, ◌+◌, ◌<◌, ◌≤◌, ◌≡◌, Bool, true, false, ◌⊎◌, List, map, length, get_or}
+use Rattle.std.specs.Prelude.{ℕ, ◌+◌, ◌<◌, ◌≤◌, ◌≡◌, Bool, true, false, List, map, length, get_or}
 use Rattle.base.specs.Lists.{All, pad}
 use Rattle.event_log.specs.Log.{Log, Values, event_at}
 use Rattle.event_log.specs.Arrays.{event_of, latest_of, in_event, in_latest}
@@ -24,6 +24,7 @@ use Rattle.slots.specs.declared.Thread.{Thread}
 use Rattle.slots.specs.inner.Threads.{trail_of}
 use Rattle.threads.specs.declared.Rules.{Rules}
 use Rattle.threads.specs.declared.Moment.{Moment}
+use Rattle.threads.specs.declared.scene.Scene as Code
 
 -- the step at an offset is there and never expires, whatever the configuration and the values
 pub record LastingStep (f : List ℕ) (at : ℕ) (rises : List Bool) : Type 0 where
@@ -38,11 +39,6 @@ pub record LastingState (f table : List ℕ) (rises : List Bool) (s : ℕ) : Typ
   pub step : ℕ
   pub known : step < 8
   pub lasts : LastingStep f (offset_of table s step) rises
-
--- a state marked after the step at an offset, of state k, was looked at: it was marked before, or is k, and the step never expires
-abbrev pub MarkLastingIs : List ℕ → ℕ → List Bool → ℕ → List Bool → List Bool → Type 0
-MarkLastingIs f at rises k before after =
-    (s : ℕ) → get_or after s false ≡ true → (get_or before s false ≡ true) ⊎ ((s ≡ k) × LastingStep f at rises)
 
 -- so has every state that is marked
 abbrev pub LastingIs : List ℕ → List ℕ → List Bool → List Bool → Type 0
@@ -105,6 +101,10 @@ pub record Scene (g : Log) (fm : Formula) (l places f table : List ℕ) (rules :
   pub leads : Leads l places g
   pub loads : Loads g m
   pub offsets : EventTable f (step_table fm) rules.rises m table
+
+-- the struct's parts are that
+abbrev pub Stands : Log → Formula → Code.Scene → Type 0
+Stands g fm s = Scene g fm s.log.now s.places.now s.formula.now s.table.now s.rules s.moment
 
 -- the configuration that the struct stands for: its lists are those gathered along its trail
 abbrev pub conf : Log → Formula → Thread → Config

@@ -1,8 +1,8 @@
--- `threads::widened` meets its contract: after i turns the first i entries of each part are copied.
-use Rattle.threads.proofs.Marking.{copied_next}
+-- `widened` meets its contract: after i turns the first i entries of each part are copied.
 use lib.ListN.{get_or}
 use mathlib.Core.Path.{◌≡◌, refl, subst}
 use native.Mathlib.Omega.{arith}
+use Rattle.threads.proofs.Marking.{copied_next}
 use Rattle.threads.proofs.table.widened.Goals as goal
 
 pub loop-i-init : goal.loop-i-init
@@ -16,9 +16,7 @@ loop-i-init c = record {
 
 pub loop-i-preserved : goal.loop-i-preserved
 loop-i-preserved c =
-    copied_next c.args.steps.now c.loop-i.table c.loop-i.i (get_or c.args.steps.now c.loop-i.i 0)
-    (omega (arith, c.loop-i-test.true))
-    refl c.loop-i.invariant
+    copied_next c.args.steps.now c.loop-i.table c.loop-i.i (get_or c.args.steps.now c.loop-i.i 0) c.loop-i-test.true refl c.loop-i.invariant
 
 pub returns : goal.returns
 returns c =

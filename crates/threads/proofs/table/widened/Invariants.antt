@@ -1,10 +1,6 @@
--- `threads::widened` meets its contract: after i turns the first i entries of each part are copied.
+-- `widened` meets its contract: after i turns the first i entries of each part are copied.
 use Rattle.threads.proofs.Marking.{Copied}
-use Prim.Native.Nat.{◌-◌}
 use Rattle.threads.proofs.table.widened.Given as goal
 
 abbrev pub invariant-loop-i : goal.invariant-loop-i
 invariant-loop-i l = Copied l.steps l.table l.i
-
-abbrev pub decreases-loop-i : goal.decreases-loop-i
-decreases-loop-i l = 128 - l.i

@@ -1,0 +1,6 @@
+-- `mark_state` meets its contract: each turn leaves it the event's table.
+use Rattle.threads.specs.inner.Setting.{MarkedIs}
+use Rattle.threads.proofs.table.Marker.mark_state.Given as goal
+
+abbrev pub invariant-loop-k : goal.invariant-loop-k
+invariant-loop-k l = MarkedIs l.self.formula.now l.self.steps.now l.self.rises.now l.self.moment.now l.initial.table l.table
