@@ -16,8 +16,6 @@ use Rattle.runs.specs.Run.{Entry}
 use Rattle.machine.specs.Machine.{kind_is, is_accept}
 use Rattle.slots.specs.declared.Thread.{Thread}
 use Rattle.slots.specs.inner.Threads.{trail_of, entry_of}
-use Rattle.search_code.specs.declared.Entries.{Entries}
-use Rattle.search_code.specs.inner.Turn.{entries_of}
 
 -- one entry more stands behind those stored
 pub store_entry : (part : ℕ → ℕ) (xs array : List ℕ) (k : ℕ) → k < 32 → k < length xs → array ≡ pad 32 0 (map part (take k xs))
@@ -40,25 +38,17 @@ take-most xs n h = go (dec_le n 32)
     go (no k) = take_all (min n 32) xs (omega arith) ∙ sym (take_all n xs (omega arith))
 
 module _ (t : Thread) (h : length t.trail ≡ 32) where
-  steps-are : min t.steps 32 ≡ length (trail_of t)
+  pub steps-are : min t.steps 32 ≡ length (trail_of t)
   unfolding trail_of
   steps-are = rw (← h) (sym (length-map (take t.steps t.trail) entry_of ∙ length-take t.steps t.trail))
 
   -- the arrays that the trail's words give
-  pub entries-are : (steps : ℕ) (es ns : List ℕ) → steps ≡ min t.steps 32 → es ≡ pad 32 0 (map (λ w. w / 8) (take steps t.trail))
-      → ns ≡ pad 32 0 (map (λ w. w % 8) (take steps t.trail))
-      → ◌≡◌ {A = Entries} (record { steps = steps; events = es; numbers = ns }) (entries_of t)
+  pub entries-are : (of : Entry → ℕ) (steps : ℕ) (xs : List ℕ) → steps ≡ min t.steps 32
+      → xs ≡ pad 32 0 (map (λ w. of (entry_of w)) (take steps t.trail)) → xs ≡ pad 32 0 (map of (trail_of t))
   unfolding trail_of
-  entries-are steps es ns s e n =
-      λ j. record {
-        steps = (s ∙ steps-are) j;
-        events =
-            (e ∙ pads (λ w. w / 8) ∙ ap (pad 32 0) (sym (map-map (λ (x : Entry). x.event) entry_of (take t.steps t.trail)))) j;
-        numbers = (n ∙ pads (λ w. w % 8) ∙ ap (pad 32 0) (sym (map-map (λ (x : Entry). x.step) entry_of (take t.steps t.trail)))) j;
-      }
-    where
-      pads : (part : ℕ → ℕ) → pad 32 0 (map part (take steps t.trail)) ≡ pad 32 0 (map part (take t.steps t.trail))
-      pads part = ap (λ xs. pad 32 0 (map part xs)) (ap (λ m. take m t.trail) s ∙ take-most t.trail t.steps h)
+  entries-are of steps xs s e =
+      e ∙ ap (λ ys. pad 32 0 (map (λ w. of (entry_of w)) ys)) (ap (λ m. take m t.trail) s ∙ take-most t.trail t.steps h)
+      ∙ ap (pad 32 0) (sym (map-map of entry_of (take t.steps t.trail)))
 
 -- "2 accept": the kind of a state, by its byte
 accept-kind : (k : StateKind) → is_accept k ≡ eqb (kind_byte k) 2

@@ -1,5 +1,6 @@
 -- The search's loop over the events: what holds before each, and the answer at its end.
 use Prim.Native.Nat.{ℕ, zero, suc, ◌+◌, ◌-◌, ◌≤◌, ◌<◌, max}
+use Rattle.std.specs.Prelude.{Ok}
 use mathlib.Core.Path.{◌≡◌, refl, sym, ap, ap₂, ◌∙◌, subst}
 use mathlib.Core.Bool.{Bool, true, false, cond, not}
 use mathlib.Core.List.{List, [], ◌∷◌, map}
@@ -41,8 +42,8 @@ use Rattle.slots.proofs.Slots.{threads-length}
 use Rattle.threads.specs.declared.Rules.{Rules}
 use Rattle.threads.specs.inner.Setting.{Setting, Loads, Fit, conf, thread}
 use Rattle.threads.specs.inner.Event.{Kept, waiting_in}
-use Rattle.search.specs.declared.Verdict.TheVariants.{Absent, Accept, Reject}
-use Rattle.search_code.specs.declared.Outcome.TheVariants.{Found, Crowded, Waiting}
+use Rattle.search.specs.declared.Verdict.TheVariants.{Accept, Reject}
+use Rattle.search_code.specs.declared.Turn.TheVariants.{Found, Crowded, Waiting}
 use Rattle.search.specs.Search.{without, refusal, answer_of}
 use Rattle.search_code.specs.inner.Turn.{seen_next, seen_to, end_to, moment_of, named_answer, TurnTo}
 use Rattle.search_code.proofs.Lawful.{swift-gives}
@@ -203,9 +204,9 @@ module _ (g : Log) (fm : Formula) (f table : List ℕ) (rules : Rules) (s : Sett
 
   module _ (slots i n half count width : ℕ) (work : List ℕ) (go : Going g fm slots i n half count width work) where
     -- no run ends on event n, and the next list has room
-    pub going_next : (more : ℕ) (t : Thread) (after : List ℕ) → n < end g fm i → TurnTo g fm half count slots n work after t (Waiting more)
+    pub going_next : (more : ℕ) (after : List ℕ) → n < end g fm i → TurnTo g fm half count slots n work after (Waiting more)
         → Going g fm slots i (n + 1) half more (max width more) after
-    going_next more t after h turn =
+    going_next more after h turn =
         let next = waiting_in g fm half more after in
         record {
           kept = turn.2;
@@ -213,12 +214,12 @@ module _ (g : Log) (fm : Formula) (f table : List ℕ) (rules : Rules) (s : Sett
               ∙ ap₂ (λ m c. ahead (machine g fm) (end g fm i) slots m next (max width c)) (sym (add-one n)) (length-waiting g fm half more after);
         }
 
-    named-is : (t : Thread) → Fit g fm t → answer_of g fm (found (conf g fm t) (trail_of t) width) ≡ named_answer rules.kinds t width
+    named-is : (t : Thread) → Fit g fm t → answer_of g fm (found (conf g fm t) (trail_of t) width) ≡ Ok (named_answer rules.kinds t width)
     unfolding accepting
     named-is t fit =
         let e : kind_is is_accept (get_elem? fm.states t.config.state) ≡ eqb (get_or rules.kinds t.config.state 0) 2 =
         rw s.kinds_are (accepts fm.states t.config.state fit.valid.declared s.formula.formed.states) in
-        ap (λ b. record {
+        ap (λ b. Ok (record {
           verdict = cond b Accept Reject;
           steps = length (trail_of t);
           events = pad 32 0 (events (trail_of t));
@@ -227,21 +228,21 @@ module _ (g : Log) (fm : Formula) (f table : List ℕ) (rules : Rules) (s : Sett
           held = t.config.held;
           values = t.config.values;
           width = width;
-        }) e
+        })) e
 
     -- a run ends on event n
-    pub going-found : (t : Thread) (after : List ℕ) → n < end g fm i → TurnTo g fm half count slots n work after t Found
-        → named_answer rules.kinds t width ≡ answer_of g fm (search (machine g fm) slots i)
+    pub going-found : (t : Thread) (after : List ℕ) → n < end g fm i → TurnTo g fm half count slots n work after (Found t)
+        → Ok (named_answer rules.kinds t width) ≡ answer_of g fm (search (machine g fm) slots i)
     going-found t after h turn =
         sym (ap (answer_of g fm) (go.leads ∙ event-found (machine g fm) (end g fm i) slots n width (waiting_in g fm half count work) (thread g fm t) h turn.0)
         ∙ named-is t turn.1)
 
     -- more wait after event n than there are slots
-    pub going-crowded : (t : Thread) (after : List ℕ) → n < end g fm i → TurnTo g fm half count slots n work after t Crowded
+    pub going-crowded : (after : List ℕ) → n < end g fm i → TurnTo g fm half count slots n work after Crowded
         → refusal (CrowdedAt n) ≡ answer_of g fm (search (machine g fm) slots i)
-    going-crowded t after h turn =
+    going-crowded after h turn =
         sym (ap (answer_of g fm) (go.leads ∙ event-crowded (machine g fm) (end g fm i) slots n width (waiting_in g fm half count work) h turn.0 turn.1))
 
     -- the stretch is over
-    pub going-over : end g fm i ≤ n → without Absent width ≡ answer_of g fm (search (machine g fm) slots i)
+    pub going-over : end g fm i ≤ n → Ok (without width) ≡ answer_of g fm (search (machine g fm) slots i)
     going-over h = sym (ap (answer_of g fm) (go.leads ∙ event-over (machine g fm) (end g fm i) slots n width (waiting_in g fm half count work) h))

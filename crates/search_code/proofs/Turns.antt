@@ -1,8 +1,8 @@
 -- One event of a search: what the least ending and the next waiting list make of it, and the search's answer from event to event.
 use Prim.Native.Nat.{ℕ, suc, ◌+◌, ◌-◌, ◌≤◌, ◌<◌, max}
+use Rattle.std.specs.Prelude.{Option, Some, None, Result, Ok, Err, IfOk}
 use mathlib.Core.Path.{◌≡◌, sym, ap, ◌∙◌, subst}
 use mathlib.Core.Bool.{Bool, true, false, cond}
-use mathlib.Core.Logic.{inl, inr}
 use mathlib.Core.List.{List, [], ◌∷◌}
 use mathlib.Core.Option.{none}
 use native.Mathlib.Numerals.{add-one}
@@ -26,60 +26,54 @@ use Rattle.runs.proofs.Stretch.{end-most, inside}
 use Rattle.machine.specs.Machine.{machine}
 use Rattle.slots.specs.inner.Threads.{origin_thread}
 use Rattle.slots.specs.inner.Words.{list}
-use Rattle.threads.specs.declared.Best.{Best}
+use Rattle.slots.specs.declared.Thread.{Thread}
 use Rattle.threads.specs.declared.Rules.{Rules}
 use Rattle.threads.specs.declared.Moment.{Moment}
 use Rattle.threads.specs.declared.Seats.{Seats}
-use Rattle.threads.specs.inner.Setting.{Setting, EventTable, Scene}
-use Rattle.threads.specs.inner.Event.{Kept, waiting_in, best_by, EndingIs, SettledTo, SettledIs}
-use Rattle.search.specs.declared.Verdict.TheVariants.{Absent}
-use Rattle.search.specs.declared.SearchAnswer.{SearchAnswer}
-use Rattle.search_code.specs.declared.Outcome.TheVariants.{Found, Crowded, Waiting}
+use Rattle.threads.specs.declared.scene.Scene.{Scene}
+use Rattle.threads.specs.inner.Setting.{Setting, EventTable, Stands}
+use Rattle.threads.specs.inner.Event.{Kept, waiting_in, EndingIs, SettledTo, SettledIs}
+use Rattle.refusal.specs.declared.Refusal.{Refusal}
 use Rattle.search_code.specs.declared.Turn.{Turn}
+use Rattle.search_code.specs.declared.Turn.TheVariants.{Found, Crowded, Waiting}
 use Rattle.search_code.specs.declared.Scope.{Scope}
+use Rattle.search.specs.declared.SearchAnswer.{SearchAnswer}
 use Rattle.search.specs.Search.{without, refusal}
 use Rattle.search_code.specs.inner.Turn.{seen_next, seen_to, end_to, stretch_end, moment_of, named_answer, TurnTo, TurnIs, TurnOf, Given, Told, SearchedFrom}
 use Rattle.search_code.proofs.Loop.{unmarked, end_is, event-there, Going, going_start, going_next, going-onward, going-found, going-crowded, going-over}
 
-module _ (l places f table : List ℕ) (rules : Rules) (m : Moment) (z : Seats) (before after : List ℕ) (b : Best)
-    (e : EndingIs l places f table rules m z before b) where
+module _ (s : Scene) (z : Seats) (before after : List ℕ) where
   -- a run ends on the event
-  pub found_turn : b.found ≡ true → TurnIs l places f table rules m z before after (record { outcome = Found; thread = b.thread })
-  found_turn q g fm s k = let h = e g fm s k in (sym h.0 ∙ ap (λ x. best_by g fm x b.thread) q, h.1 q)
+  pub found_turn : (t : Thread) → EndingIs s z before (Some t) → TurnIs s z before after (Found t)
+  found_turn t e g fm x k = let h = e g fm x k in (sym h.0, h.1)
 
-  no-ending : b.found ≡ false → (g : Log) (fm : Formula) → Scene g fm l places f table rules m → Kept g fm z.half z.count before
-      → Runs.least (machine g fm) (Runs.endings (machine g fm) m.number (waiting_in g fm z.half z.count before)) ≡ none
-  no-ending q g fm s k = sym (e g fm s k).0 ∙ ap (λ x. best_by g fm x b.thread) q
+  module _ (e : EndingIs s z before None) where
+    no-ending : (g : Log) (fm : Formula) → Stands g fm s → Kept g fm z.half z.count before
+        → Runs.least (machine g fm) (Runs.endings (machine g fm) s.moment.number (waiting_in g fm z.half z.count before)) ≡ none
+    no-ending g fm x k = sym (e g fm x k).0
 
-  -- no run ends on it, and more wait after it than there are slots
-  pub crowded-turn : (more : ℕ) → b.found ≡ false → SettledIs l places f table rules m z before after more → z.slots < more
-      → TurnIs l places f table rules m z before after (record { outcome = Crowded; thread = b.thread })
-  crowded-turn more q a h g fm s k = go (a g fm s k (least-none (machine g fm) _ (no-ending q g fm s k)))
-    where
-      go : SettledTo g fm m.number z before after more → TurnTo g fm z.half z.count z.slots m.number before after b.thread Crowded
-      go (inl x) = absurd (omega (arith, x.0))
-      go (inr x) = (no-ending q g fm s k, x.1)
+    settled : (r : Option ℕ) → SettledIs s z before after r → (g : Log) (fm : Formula) → Stands g fm s → Kept g fm z.half z.count before
+        → SettledTo g fm s.moment.number z before after r
+    settled r a g fm x k = a g fm x k (least-none (machine g fm) _ (no-ending g fm x k))
 
-  -- no run ends on it, and the next waiting list has room
-  pub next-turn : (more : ℕ) → b.found ≡ false → SettledIs l places f table rules m z before after more → more ≤ z.slots
-      → TurnIs l places f table rules m z before after (record { outcome = Waiting more; thread = b.thread })
-  next-turn more q a h g fm s k = go (a g fm s k (least-none (machine g fm) _ (no-ending q g fm s k)))
-    where
-      go : SettledTo g fm m.number z before after more → TurnTo g fm z.half z.count z.slots m.number before after b.thread (Waiting more)
-      go (inl x) = (no-ending q g fm s k, x.1, x.2)
-      go (inr x) = absurd (omega (arith, x.0))
+    -- no run ends on it, and more wait after it than there are slots
+    pub crowded-turn : SettledIs s z before after None → TurnIs s z before after Crowded
+    crowded-turn a g fm x k = (no-ending g fm x k, settled None a g fm x k)
+
+    -- no run ends on it, and the next waiting list has room
+    pub next-turn : (more : ℕ) → SettledIs s z before after (Some more) → TurnIs s z before after (Waiting more)
+    next-turn more a g fm x k = let h = settled (Some more) a g fm x k in (no-ending g fm x k, h.0, h.1)
 
 -- the event's table, from the table of the formula's steps
-pub turn-of : (l places f steps : List ℕ) (rules : Rules) (m : Moment) (z : Seats) (before after table : List ℕ) (r : Turn)
-    → EventTable f steps rules.rises m table
-    → TurnIs l places f table rules m z before after r → TurnOf l places f steps rules m z before after r
-turn-of l places f steps rules m z before after table r o t g fm s leads loads k =
-    let setting = subst (λ (x : List ℕ). Setting g fm f x rules) s.table_is s in
+pub turn-of : (x : Scene) (steps : List ℕ) (z : Seats) (before after : List ℕ) (r : Turn) → EventTable x.formula.now steps x.rules.rises x.moment x.table.now
+    → TurnIs x z before after r → TurnOf x.log.now x.places.now x.formula.now steps x.rules x.moment z before after r
+turn-of x steps z before after r o t g fm s leads loads k =
+    let setting = subst (λ (ys : List ℕ). Setting g fm x.formula.now ys x.rules) s.table_is s in
     t g fm (record {
       setting = setting;
       leads = leads;
       loads = loads;
-      offsets = subst (λ (x : List ℕ). EventTable f x rules.rises m table) s.table_is o;
+      offsets = subst (λ (ys : List ℕ). EventTable x.formula.now ys x.rules.rises x.moment x.table.now) s.table_is o;
     }) k
 
 -- the values carried, event by event
@@ -147,21 +141,17 @@ module _ (l places f table : List ℕ) (scope : Scope) (i end : ℕ) (before : L
 
   module _ (n half count width : ℕ) (work : List ℕ) (seen : Latest) (S : Searching l places f table scope i end before n half count width work seen) where
     -- the stretch is over
-    pub searching-over : (r : SearchAnswer) → end ≤ n → width ≤ scope.slots → r ≡ without Absent width
-        → SearchedFrom l places f table scope i end before r × (r.width ≤ scope.slots)
-    searching-over r h w q = (
-      λ g fm x d.
-          q ∙ going-over g fm f table scope.rules x.setting scope.slots i n half count width work (S g fm x d).0
-          (omega (arith, h, end_same g fm l places f table scope i end before x d)),
-      omega (arith, ap (λ (y : SearchAnswer). y.width) q),
-    )
+    pub searching-over : (r : SearchAnswer) → end ≤ n → r ≡ without width → SearchedFrom l places f table scope i end before (Ok r)
+    searching-over r h q g fm x d =
+        ap Ok q ∙ going-over g fm f table scope.rules x.setting scope.slots i n half count width work (S g fm x d).0
+        (omega (arith, h, end_same g fm l places f table scope i end before x d))
 
     module _ (more : n < end) (loaded : Loaded) (there : loaded ≡ loaded_at l scope.rules.fields (get_or places n 0)) (after : List ℕ) (turn : Turn)
         (is : TurnOf l places f table scope.rules (moment_of n seen loaded.event) (record { half = half; count = count; slots = scope.slots }) work
         after turn) where
       -- what the event does
       turned : (g : Log) (fm : Formula) → Given g fm l places f table scope → Told l places scope i end before
-          → TurnTo g fm half count scope.slots n work after turn.thread turn.outcome
+          → TurnTo g fm half count scope.slots n work after turn
       turned g fm x d =
           let s = S g fm x d in
           let here = event-there g l places scope.rules.fields x.setting.log x.leads x.setting.fields_are n loaded seen
@@ -182,35 +172,28 @@ module _ (l places f table : List ℕ) (scope : Scope) (i end : ℕ) (before : L
       later-on : (m n' : ℕ) → n' ≡ cond (eqb m 0) end (n + 1) → i ≤ n → i ≤ n'
       later-on m n' o h = rw o (cond-holds (λ z. i ≤ z) (eqb m 0) end (n + 1) (λ e. omega (arith, h, more)) (λ e. omega (arith, h)))
 
-      pub searching-next : (m n' : ℕ) → turn.outcome ≡ Waiting m → n' ≡ cond (eqb m 0) end (n + 1)
+      pub searching-next : (m n' : ℕ) → turn ≡ Waiting m → n' ≡ cond (eqb m 0) end (n + 1)
           → Searching l places f table scope i end before n' half m (max width m) after (later_of seen loaded.event)
       searching-next m n' q o g fm x d =
-          let y = subst (TurnTo g fm half count scope.slots n work after turn.thread) q (turned g fm x d) in
+          let y = subst (TurnTo g fm half count scope.slots n work after) q (turned g fm x d) in
           let s = S g fm x d in
           let same = end_same g fm l places f table scope i end before x d in
-          let go = going_next g fm f table scope.rules x.setting scope.slots i n half count width work s.0 m turn.thread after
+          let go = going_next g fm f table scope.rules x.setting scope.slots i n half count width work s.0 m after
           (omega (arith, more, same)) y in (
             going-onward g fm scope.slots i (n + 1) half m (max width m) after n' (o ∙ ap (λ e. cond (eqb m 0) e (n + 1)) same) go,
             later-on m n' o s.1,
             λ h. onward n' m o (s.2 more) (unmarked-inside g fm l places f table scope i end before x d n s.1) h,
           )
 
-      pub searching-found : (r : SearchAnswer) → turn.outcome ≡ Found → width ≤ scope.slots → r ≡ named_answer scope.rules.kinds turn.thread width
-          → SearchedFrom l places f table scope i end before r × (r.width ≤ scope.slots)
-      searching-found r q w z = (
-        λ g fm x d.
-            let y = subst (TurnTo g fm half count scope.slots n work after turn.thread) q (turned g fm x d) in
-            z ∙ going-found g fm f table scope.rules x.setting scope.slots i n half count width work (S g fm x d).0 turn.thread after
-            (omega (arith, more, end_same g fm l places f table scope i end before x d)) y,
-        omega (arith, ap (λ (y : SearchAnswer). y.width) z),
-      )
+      pub searching-found : (t : Thread) (r : SearchAnswer) → turn ≡ Found t → r ≡ named_answer scope.rules.kinds t width
+          → SearchedFrom l places f table scope i end before (Ok r)
+      searching-found t r q z g fm x d =
+          let y = subst (TurnTo g fm half count scope.slots n work after) q (turned g fm x d) in
+          ap Ok z ∙ going-found g fm f table scope.rules x.setting scope.slots i n half count width work (S g fm x d).0 t after
+          (omega (arith, more, end_same g fm l places f table scope i end before x d)) y
 
-      pub searching-crowded : (r : SearchAnswer) → turn.outcome ≡ Crowded → r ≡ refusal (CrowdedAt n)
-          → SearchedFrom l places f table scope i end before r × (r.width ≤ scope.slots)
-      searching-crowded r q z = (
-        λ g fm x d.
-            let y = subst (TurnTo g fm half count scope.slots n work after turn.thread) q (turned g fm x d) in
-            z ∙ going-crowded g fm f table scope.rules x.setting scope.slots i n half count width work (S g fm x d).0 turn.thread after
-            (omega (arith, more, end_same g fm l places f table scope i end before x d)) y,
-        omega (arith, ap (λ (y : SearchAnswer). y.width) z),
-      )
+      pub searching-crowded : turn ≡ Crowded → SearchedFrom l places f table scope i end before (Err (CrowdedAt n))
+      searching-crowded q g fm x d =
+          let y = subst (TurnTo g fm half count scope.slots n work after) q (turned g fm x d) in
+          going-crowded g fm f table scope.rules x.setting scope.slots i n half count width work (S g fm x d).0 after
+          (omega (arith, more, end_same g fm l places f table scope i end before x d)) y

@@ -1,12 +1,12 @@
 // The search for the least run from one event of a log.
 #![tactic(auto)]
 
-ghost use Rattle.std.specs.Prelude.{◌≡◌, cond, List, [], ◌∷◌, ℕ, ◌+◌, ◌*◌, ◌≤◌, ◌<◌, max, length, get_or, eqb};
+ghost use Rattle.std.specs.Prelude.{◌≡◌, List, [], ◌∷◌, ℕ, ◌*◌, ◌≤◌, ◌<◌, IfOk, length, get_or};
 ghost use Rattle.slots.specs.inner.Threads.{origin_thread};
 ghost use Rattle.slots.specs.inner.Words.{list};
-ghost use Rattle.search.specs.Search.{slots_of, without, refusal};
+ghost use Rattle.search.specs.Search.{slots_of, without};
 ghost use Rattle.search.specs.Call.{Searched};
-ghost use Rattle.search_code.specs.inner.Turn.{entries_of, verdict_at, named_answer, seen_next, seen_to, stretch_end, moment_of, TurnIs, TurnOf, Fits, scope_of, SearchedFrom};
+ghost use Rattle.search_code.specs.inner.Turn.{verdict_at, named_answer, seen_next, seen_to, stretch_end, moment_of, TurnIs, TurnOf, Fits, scope_of, SearchedFrom};
 ghost use Rattle.threads.specs.inner.Setting.{Wide, LastingIs};
 ghost use Rattle.threads.specs.inner.Event.{Seated};
 ghost use Rattle.search_code.specs.inner.Checks.{CheckedIs};
@@ -14,32 +14,18 @@ ghost use Rattle.search_code.specs.inner.Checks.{CheckedIs};
 use event_log::{Event, Latest, LogReading};
 use files_code::FilesReading;
 use formula_code::FormulaReading;
-use refusal::{Acceptance, Refusal, refusal_of};
+use refusal::Refusal;
 use search::{SearchAnswer, Verdict};
 use slots::Thread;
-use threads::{Moment, Rules, Seats};
+use threads::table::Marker;
+use threads::{Moment, Rules, Scene, Seats};
 
-// What one event does to a search: a run ends on it, more wait than there are slots, or so many wait after it.
+// What one event does to a search: the least run ends on it, more wait than there are slots, or so many wait after it.
 #[derive(Clone, Copy)]
-enum Outcome {
-    Found,
+enum Turn {
+    Found(Thread),
     Crowded,
     Waiting(usize),
-}
-
-// The outcome, and the thread of the run that was found.
-#[derive(Clone, Copy)]
-struct Turn {
-    outcome: Outcome,
-    thread: Thread,
-}
-
-// A trail's number of steps, their events and their step numbers, unused entries 0.
-#[derive(Clone, Copy)]
-struct Entries {
-    steps: usize,
-    events: [u32; 32],
-    numbers: [u32; 32],
 }
 
 // What a search is over: the log's number of events, the rules, and how many slots there are.
@@ -50,6 +36,17 @@ pub struct Scope {
     pub slots: usize,
 }
 
+// The same with the files: the log's bytes and where its events stand, the formula's bytes and where its steps stand.
+#[derive(Clone, Copy)]
+pub struct Files<'a> {
+    pub log: &'a [u8],
+    pub places: &'a [usize; 1024],
+    pub formula: &'a [u8],
+    pub steps: &'a [usize; 128],
+    pub scope: Scope,
+    ghost sized: { (length places.now ≡ 1024) × (scope.events ≤ 1024) },
+}
+
 // The waiting list before the first event: the start configuration, in slot 0.
 fn origin_in(work: &mut [u32])
     requires { 192 ≤ length work.old }
@@ -58,56 +55,33 @@ fn origin_in(work: &mut [u32])
     slots::store_slot(work, 0, 0, slots::origin());
 }
 
-// The events and step numbers of a thread's trail.
-fn entries_of(t: Thread) -> Entries
-    ensures { result ≡ entries_of t }
-{
-    let trail = t.trail;
-    let steps = slots::capped(t.steps);
-    let mut events = [0u32; 32];
-    let mut numbers = [0u32; 32];
-    let mut k: usize = 0;
-    while k < steps {
-        events[k] = trail[k] / 8;
-        numbers[k] = trail[k] % 8;
-        k += 1;
-    }
-    Entries {
-        steps,
-        events,
-        numbers,
-    }
-}
-
 // What a run says that ends in a state.
-fn verdict_at(rules: Rules, state: u32) -> Verdict
-    ensures { result ≡ verdict_at rules.kinds state }
+fn verdict_at(rules: &Rules, state: u32) -> Verdict
+    ensures { result ≡ verdict_at rules.now.kinds state }
 {
-    let at = state as usize;
-    if 16 <= at {
-        return Verdict::Reject;
-    }
-    if rules.kinds[at] == 2 {
+    if base::get_or(&rules.kinds, state as usize, 0) == 2 {
         Verdict::Accept
     } else {
         Verdict::Reject
     }
 }
 
-// The answer that names the trail of the turn's thread as the run.
-fn named(turn: Turn, rules: Rules, width: usize) -> SearchAnswer
-    ensures { result ≡ named_answer rules.kinds turn.thread width }
+// The answer that names a thread's trail as the run, unused entries 0.
+fn named(t: &Thread, rules: &Rules, width: usize) -> SearchAnswer
+    ensures { result ≡ named_answer rules.now.kinds t.now width }
 {
-    let t = turn.thread;
-    let entries = entries_of(t);
-    let events = entries.events;
-    let numbers = entries.numbers;
-    let config = t.config;
-    let held = config.held;
-    let values = config.values;
+    let steps = slots::capped(t.steps);
+    let mut events = [0; 32];
+    let mut numbers = [0; 32];
+    for k in 0..steps {
+        events[k] = t.trail[k] / 8;
+        numbers[k] = t.trail[k] % 8;
+    }
+    let held = t.config.held;
+    let values = t.config.values;
     SearchAnswer {
-        verdict: verdict_at(rules, config.state),
-        steps: entries.steps,
+        verdict: verdict_at(rules, t.config.state),
+        steps,
         events,
         numbers,
         held,
@@ -117,32 +91,18 @@ fn named(turn: Turn, rules: Rules, width: usize) -> SearchAnswer
 }
 
 // The answer without a run.
-fn no_run(verdict: Verdict, width: usize) -> SearchAnswer
-    ensures { result ≡ without verdict width }
+fn no_run(width: usize) -> SearchAnswer
+    ensures { result ≡ without width }
 {
     SearchAnswer {
-        verdict,
+        verdict: Verdict::Absent,
         steps: 0,
-        events: [0u32; 32],
-        numbers: [0u32; 32],
+        events: [0; 32],
+        numbers: [0; 32],
         held: [false; 8],
-        values: [0u32; 8],
+        values: [0; 8],
         width,
     }
-}
-
-// The answer of a refused call.
-fn refused(r: Refusal) -> SearchAnswer
-    ensures { result ≡ refusal r }
-{
-    no_run(Verdict::Refused(r), 0)
-}
-
-// The larger of two counts.
-fn larger(a: usize, b: usize) -> usize
-    ensures { result ≡ max a b }
-{
-    if a < b { b } else { a }
 }
 
 // Event n and the values by which steps are judged expired after it: each field's last present one, from those before it.
@@ -158,190 +118,156 @@ fn moment_of(n: usize, seen: Latest, event: Event) -> Moment
     }
 }
 
-// The last present values behind event n, from those before it; a clock mark behind it leaves none.
-pub fn seen_after(l: &[u8], places: &[usize; 1024], scope: Scope, n: usize, seen: Latest) -> Latest
-    requires { (n < 1024) × (length places.now ≡ 1024) }
-    ensures { result ≡ seen_next l.now scope.rules.fields (get_or places.now n 0) seen }
+// One event: the least run that ends on it; else how many wait after it, or crowded.
+fn one_event(scene: &Scene<'_>, work: &mut [u32], seats: Seats) -> Turn
+    requires { Seated seats work.old }
+    ensures turn_is { TurnIs scene.now seats work.old work.new result }
+    ensures fits { Fits seats.slots result × (length work.new ≡ length work.old) }
 {
-    let rules = scope.rules;
-    let loaded = event_log_code::event_at(l, rules.fields, places[n]);
-    if event_log_code::mark_at(l, loaded.next) {
-        return event_log_code::none_seen();
+    match scene.ending(work, seats) {
+        Some(least) => Turn::Found(least),
+        None => match scene.settle(work, seats) {
+            Some(more) => Turn::Waiting(more),
+            None => Turn::Crowded,
+        },
     }
-    let event = loaded.event;
-    event_log_code::later(seen, event)
 }
 
-// The last present values before a start.
-fn seen_before(l: &[u8], places: &[usize; 1024], scope: Scope, start: usize) -> Latest
-    requires { (start ≤ 1024) × (length places.now ≡ 1024) }
-    ensures { result ≡ seen_to l.now places.now scope.rules.fields start }
-{
-    let mut seen = event_log_code::none_seen();
-    let mut n: usize = 0;
-    while n < start {
-        seen = seen_after(l, places, scope, n, seen);
-        n += 1;
-    }
-    seen
-}
-
-// Where the stretch of a start ends: behind the first event that a clock mark follows.
-pub fn stretch_end(l: &[u8], places: &[usize; 1024], scope: Scope, start: usize) -> usize
-    requires { (start ≤ scope.events) × (scope.events ≤ 1024) × (length places.now ≡ 1024) }
-    ensures { (result ≡ stretch_end l.now places.now scope start) × (result ≤ scope.events) }
-{
-    let rules = scope.rules;
-    let mut n = start;
-    while n < scope.events {
-        let loaded = event_log_code::event_at(l, rules.fields, places[n]);
-        n += 1;
-        if event_log_code::mark_at(l, loaded.next) {
-            return n;
+impl<'a> Files<'a> {
+    // The last present values behind event n, from those before it; a clock mark behind it leaves none.
+    pub fn seen_after(&self, n: usize, seen: Latest) -> Latest
+        requires { n < 1024 }
+        ensures { result ≡ seen_next self.now.log.now self.now.scope.rules.fields (get_or self.now.places.now n 0) seen }
+    {
+        let loaded = event_log_code::event_at(self.log, self.scope.rules.fields, self.places[n]);
+        if event_log_code::mark_at(self.log, loaded.next) {
+            event_log_code::none_seen()
+        } else {
+            event_log_code::later(seen, loaded.event)
         }
     }
-    n
-}
 
-// One event: the least run that ends on it; else the waiting list after it, or crowded.
-fn one_event(
-    work: &mut [u32],
-    seats: Seats,
-    l: &[u8],
-    places: &[usize],
-    f: &[u8],
-    table: &[usize],
-    rules: Rules,
-    moment: Moment,
-) -> Turn
-    requires { Seated seats work.old × (moment.number < 1024) }
-    ensures turn_is { TurnIs l.now places.now f.now table.now rules moment seats work.old work.new result }
-    ensures fits { Fits seats.slots result.outcome × (length work.new ≡ length work.old) }
-{
-    let best = threads::ending(work, seats, l, places, f, table, rules, moment);
-    let thread = best.thread;
-    if best.found {
-        return Turn {
-            outcome: Outcome::Found,
-            thread,
-        };
+    // The last present values before a start.
+    fn seen_before(&self, start: usize) -> Latest
+        requires { start ≤ 1024 }
+        ensures { result ≡ seen_to self.now.log.now self.now.places.now self.now.scope.rules.fields start }
+    {
+        let mut seen = event_log_code::none_seen();
+        for n in 0..start {
+            seen = self.seen_after(n, seen);
+        }
+        seen
     }
-    let more = threads::settle(work, seats, l, places, f, table, rules, moment);
-    if seats.slots < more {
-        return Turn {
-            outcome: Outcome::Crowded,
-            thread,
-        };
-    }
-    Turn {
-        outcome: Outcome::Waiting(more),
-        thread,
-    }
-}
 
-// One event, with what it alone says of the steps told first: `wide` has the table of the steps in its three parts.
-fn at_event(
-    work: &mut [u32],
-    seats: Seats,
-    l: &[u8],
-    places: &[usize],
-    f: &[u8],
-    wide: &[usize; 384],
-    rules: Rules,
-    moment: Moment,
-) -> Turn
-    requires { Seated seats work.old × (moment.number < 1024) × (length wide.now ≡ 384) }
-    ensures by_index { (steps : List ℕ) → Wide steps wide.now → TurnOf l.now places.now f.now steps rules moment seats work.old work.new result }
-    ensures fits { Fits seats.slots result.outcome × (length work.new ≡ length work.old) }
-{
-    let rises = rules.rises;
-    let mut table = *wide;
-    threads::table::mark_states(&mut table, &work[..], seats, f, wide, rises, moment);
-    one_event(work, seats, l, places, f, &table, rules, moment)
-}
-
-// The next event to look at: none any more where nobody waits.
-fn onward(n: usize, more: usize, end: usize) -> usize
-    requires { n < end }
-    ensures { (result ≡ cond (eqb more 0) end (n + 1)) × (n < result) }
-{
-    if more == 0 { end } else { n + 1 }
-}
-
-// The search from one event of an accepted log with an accepted formula, event by event up to the end of its stretch; `before` has the last present
-// values before it.
-pub fn search_from(
-    l: &[u8],
-    places: &[usize; 1024],
-    f: &[u8],
-    table: &[usize; 128],
-    scope: Scope,
-    start: usize,
-    end: usize,
-    before: Latest,
-    work: &mut [u32],
-) -> SearchAnswer
-    requires { (scope.slots * 192 ≤ length work.old) × (1 ≤ scope.slots) × (end ≤ 1024) × (length places.now ≡ 1024) }
-    ensures searched_from { SearchedFrom l.now places.now f.now table.now scope start end before result }
-    ensures width_le_slots { (result.width ≤ scope.slots) × (length work.new ≡ length work.old) }
-{
-    origin_in(work);
-    let wide = threads::table::widened(table);
-    let rules = scope.rules;
-    let mut count: usize = 1;
-    let mut width: usize = 0;
-    let mut seen = before;
-    let mut n = start;
-    while n < end {
-        let loaded = event_log_code::event_at(l, rules.fields, places[n]);
-        let event = loaded.event;
-        let moment = moment_of(n, seen, event);
-        seen = moment.latest;
-        let seats = Seats {
-            half: 0,
-            count,
-            slots: scope.slots,
-        };
-        let turn = at_event(work, seats, l, places, f, &wide, rules, moment);
-        let outcome = turn.outcome;
-        match outcome {
-            Outcome::Found => return named(turn, rules, width),
-            Outcome::Crowded => return refused(Refusal::Crowded { place: n }),
-            Outcome::Waiting(more) => {
-                count = more;
-                width = larger(width, more);
-                n = onward(n, more, end);
+    // Where the stretch of a start ends: behind the first event that a clock mark follows.
+    pub fn stretch_end(&self, start: usize) -> usize
+        requires { start ≤ self.now.scope.events }
+        ensures { (result ≡ stretch_end self.now.log.now self.now.places.now self.now.scope start) × (result ≤ self.now.scope.events) }
+    {
+        for n in start..self.scope.events {
+            let loaded = event_log_code::event_at(self.log, self.scope.rules.fields, self.places[n]);
+            if event_log_code::mark_at(self.log, loaded.next) {
+                return n + 1;
             }
         }
+        self.scope.events
     }
-    no_run(Verdict::Absent, width)
+
+    // One event, with what it alone says of the steps told first: `wide` has the table of the steps in its three parts.
+    fn at_event(
+        &'a self,
+        work: &mut [u32],
+        seats: Seats,
+        wide: &'a [usize; 384],
+        moment: Moment,
+    ) -> Turn
+        requires { Seated seats work.old × (moment.number < 1024) × (length wide.now ≡ 384) }
+        ensures by_index { (steps : List ℕ) → Wide steps wide.now → TurnOf self.now.log.now self.now.places.now self.now.formula.now steps self.now.scope.rules moment seats work.old work.new result }
+        ensures fits { Fits seats.slots result × (length work.new ≡ length work.old) }
+    {
+        let places = self.places;
+        let mut table = *wide;
+        let marker = Marker {
+            formula: self.formula,
+            steps: wide,
+            rises: &self.scope.rules.rises,
+            moment: &moment,
+        };
+        marker.mark_states(&mut table, work, seats);
+        let scene = Scene {
+            log: self.log,
+            places,
+            formula: self.formula,
+            table: &table,
+            rules: self.scope.rules,
+            moment,
+        };
+        one_event(&scene, work, seats)
+    }
+
+    // The search from one event of an accepted log with an accepted formula, event by event up to the end of its stretch; `before` has
+    // the last present values before it.
+    pub fn search_from(
+        &self,
+        start: usize,
+        end: usize,
+        before: Latest,
+        work: &mut [u32],
+    ) -> Result<SearchAnswer, Refusal>
+        requires { (self.now.scope.slots * 192 ≤ length work.old) × (1 ≤ self.now.scope.slots) × (end ≤ 1024) }
+        ensures searched_from { SearchedFrom self.now.log.now self.now.places.now self.now.formula.now self.now.steps.now self.now.scope start end before result }
+        ensures width_le_slots { IfOk result (λ a. a.width ≤ self.now.scope.slots) × (length work.new ≡ length work.old) }
+    {
+        origin_in(work);
+        let wide = threads::table::widened(self.steps);
+        let mut count: usize = 1;
+        let mut width: usize = 0;
+        let mut seen = before;
+        for n in start..end {
+            let loaded = event_log_code::event_at(self.log, self.scope.rules.fields, self.places[n]);
+            let moment = moment_of(n, seen, loaded.event);
+            let seats = Seats {
+                half: 0,
+                count,
+                slots: self.scope.slots,
+            };
+            match (&*self).at_event(work, seats, &wide, moment) {
+                Turn::Found(least) => return Ok(named(&least, &self.scope.rules, width)),
+                Turn::Crowded => return Err(Refusal::Crowded { place: n }),
+                Turn::Waiting(0) => break,
+                Turn::Waiting(more) => {
+                    count = more;
+                    width = width.max(more);
+                    seen = moment.latest;
+                }
+            }
+        }
+        Ok(no_run(width))
+    }
 }
 
 // The number of slots in so many words.
 pub fn slots_of(words: usize) -> usize
     ensures { result ≡ slots_of words }
 {
-    let slots = words / 192;
-    if slots < 64 { slots } else { 64 }
+    (words / 192).min(64)
 }
 
 // States some step of which never expires, by the readers' answers: for speed alone.
-pub fn lasting_of(f: &[u8], log: LogReading, formula: FormulaReading) -> [bool; 16]
-    ensures { LastingIs f.now formula.table log.rises result }
+pub fn lasting_of(f: &[u8], log: &LogReading, formula: &FormulaReading) -> [bool; 16]
+    ensures { LastingIs f.now formula.now.table log.now.rises result }
 {
-    let table = formula.table;
-    let rises = log.rises;
-    threads::table::lasting(f, &table, &rises)
+    threads::table::lasting(f, &formula.table, &log.rises)
 }
 
 // What the readers of two accepted files say of a search with so many slots; `lasting` marks states some step of which never expires.
 pub fn scope_of(
-    log: LogReading,
-    formula: FormulaReading,
+    log: &LogReading,
+    formula: &FormulaReading,
     lasting: [bool; 16],
     slots: usize,
 ) -> Scope
-    ensures { result ≡ scope_of log formula lasting slots }
+    ensures { result ≡ scope_of log.now formula.now lasting slots }
 {
     let kinds = formula.kinds;
     let rises = log.rises;
@@ -358,37 +284,46 @@ pub fn scope_of(
 }
 
 // A call whose files are accepted: the start and the lent words are checked, then the search runs.
-fn checked(l: &[u8], f: &[u8], files: FilesReading, start: usize, work: &mut [u32]) -> SearchAnswer
-    requires { files.log.events ≤ 1024 }
-    ensures checked_is { CheckedIs l.now f.now files start work.old work.new result }
-    ensures work_len_unchanged { (length work.new ≡ length work.old) × (result.width ≤ slots_of (length work.old)) }
+fn checked(
+    l: &[u8],
+    f: &[u8],
+    files: &FilesReading,
+    start: usize,
+    work: &mut [u32],
+) -> Result<SearchAnswer, Refusal>
+    requires { files.now.log.events ≤ 1024 }
+    ensures checked_is { CheckedIs l.now f.now files.now start work.old work.new result }
+    ensures work_len_unchanged { (length work.new ≡ length work.old) × IfOk result (λ a. a.width ≤ slots_of (length work.old)) }
 {
-    let log = files.log;
-    if log.events <= start {
-        return refused(Refusal::Outside { start });
+    if files.log.events <= start {
+        return Err(Refusal::Outside { start });
     }
     let words = work.len();
     if words < 192 {
-        return refused(Refusal::Short { needed: 192 });
+        return Err(Refusal::Short { needed: 192 });
     }
-    let formula = files.formula;
-    let places = log.places;
-    let table = formula.table;
-    let lasting = lasting_of(f, log, formula);
-    let scope = scope_of(log, formula, lasting, slots_of(words));
-    let seen = seen_before(l, &places, scope, start);
-    let end = stretch_end(l, &places, scope, start);
-    search_from(l, &places, f, &table, scope, start, end, seen, work)
+    let lasting = lasting_of(f, &files.log, &files.formula);
+    let read = Files {
+        log: l,
+        places: &files.log.places,
+        formula: f,
+        steps: &files.formula.table,
+        scope: scope_of(&files.log, &files.formula, lasting, slots_of(words)),
+    };
+    let seen = read.seen_before(start);
+    let end = read.stretch_end(start);
+    read.search_from(start, end, seen, work)
 }
 
 // The search from an event, over the bytes of the two files, with threads in the lent words.
-pub fn search(l: &[u8], f: &[u8], start: usize, work: &mut [u32]) -> SearchAnswer
+pub fn search(
+    l: &[u8],
+    f: &[u8],
+    start: usize,
+    work: &mut [u32],
+) -> Result<SearchAnswer, Refusal>
     ensures { Searched l.now f.now start work.old work.new result }
 {
-    let files = files_code::read_files(l, f);
-    let acceptance = files.acceptance;
-    let Acceptance::Accepted = acceptance else {
-        return refused(refusal::refusal_of(acceptance));
-    };
-    checked(l, f, files, start, work)
+    let files = files_code::read_files(l, f)?;
+    checked(l, f, &files, start, work)
 }

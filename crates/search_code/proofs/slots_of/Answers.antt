@@ -1,12 +1,8 @@
 -- `search_code::slots_of` meets its contract.
+use Rattle.std.proofs.Common.{arith}
 use Rattle.search.specs.Search.{slots_of}
-use native.Mathlib.Omega.{arith}
 use Rattle.search_code.proofs.slots_of.Goals as goal
 
-pub returns-then-slots-lt64 : goal.returns-then-slots-lt64
+pub returns : goal.returns
 unfolding slots_of
-returns-then-slots-lt64 c = omega arith
-
-pub returns-else-slots-lt64 : goal.returns-else-slots-lt64
-unfolding slots_of
-returns-else-slots-lt64 c = omega arith
+returns c = omega arith

@@ -1,7 +1,8 @@
 -- What the functions of a search are asked: what one event does, and the search from a start.
-use Rattle.std.specs.Prelude.{ℕ, zero, suc, ◌-◌, ◌≤◌, ◌<◌, ◌≡◌, Bool, cond, List, [], length, get_or, eqb}
+use Rattle.std.specs.Prelude.{ℕ, zero, suc, ◌-◌, ◌≤◌, ◌<◌, ◌≡◌, Bool, cond, List, [], length, get_or, eqb, Result}
 use Rattle.std.proofs.Math.Option.{none, some}
 use Rattle.base.specs.Lists.{pad}
+use Rattle.refusal.specs.declared.Refusal.{Refusal}
 use Rattle.event_log.specs.Log.{Log}
 use Rattle.event_log.specs.declared.Event.{Event}
 use Rattle.event_log.specs.declared.LogReading.{LogReading}
@@ -20,15 +21,14 @@ use Rattle.slots.specs.inner.Threads.{trail_of}
 use Rattle.threads.specs.declared.Rules.{Rules}
 use Rattle.threads.specs.declared.Moment.{Moment}
 use Rattle.threads.specs.declared.Seats.{Seats}
-use Rattle.threads.specs.inner.Setting.{Setting, Scene, Loads, Fit, thread}
+use Rattle.threads.specs.declared.scene.Scene as Code
+use Rattle.threads.specs.inner.Setting.{Setting, Loads, Stands, Fit, thread}
 use Rattle.threads.specs.inner.Event.{Kept, waiting_in}
 use Rattle.search.specs.declared.Verdict.{Verdict}
 use Rattle.search.specs.declared.Verdict.TheVariants.{Accept, Reject}
 use Rattle.search.specs.declared.SearchAnswer.{SearchAnswer}
-use Rattle.search_code.specs.declared.Outcome.{Outcome}
-use Rattle.search_code.specs.declared.Outcome.TheVariants.{Found, Crowded, Waiting}
 use Rattle.search_code.specs.declared.Turn.{Turn}
-use Rattle.search_code.specs.declared.Entries.{Entries}
+use Rattle.search_code.specs.declared.Turn.TheVariants.{Found, Crowded, Waiting}
 use Rattle.search_code.specs.declared.Scope.{Scope}
 use Rattle.search.specs.Search.{answer_of}
 
@@ -50,10 +50,6 @@ end_to l places fields (suc f) n = cond (marked_at l (loaded_at l fields (get_or
 abbrev pub moment_of : ℕ → Latest → Event → Moment
 moment_of n seen e = record { number = n; event = e; latest = later_of seen e }
 
--- "unused entries 0": the events and the step numbers of a thread's trail as arrays
-abbrev pub entries_of : Thread → Entries
-entries_of t = record { steps = length (trail_of t); events = pad 32 0 (events (trail_of t)); numbers = pad 32 0 (numbers (trail_of t)) }
-
 -- "kind .. 2 accept, 3 reject": what a run that ends in a state says, by the kinds of the states
 abbrev pub verdict_at : List ℕ → ℕ → Verdict
 verdict_at kinds state = cond (eqb (get_or kinds state 0) 2) Accept Reject
@@ -72,31 +68,30 @@ named_answer kinds t width =
     }
 
 -- what one event does to a search: the least run that ends on it; crowded; or the next waiting list
-abbrev pub TurnTo : (g : Log) (fm : Formula) (half count slots n : ℕ) (before after : List ℕ) → Thread → Outcome → Type 0
-TurnTo g fm half count slots n before after t Found =
+abbrev pub TurnTo : (g : Log) (fm : Formula) (half count slots n : ℕ) (before after : List ℕ) → Turn → Type 0
+TurnTo g fm half count slots n before after (Found t) =
     (Runs.least (machine g fm) (Runs.endings (machine g fm) n (waiting_in g fm half count before)) ≡ some (thread g fm t)) × Fit g fm t
-TurnTo g fm half count slots n before after t Crowded =
+TurnTo g fm half count slots n before after Crowded =
     (Runs.least (machine g fm) (Runs.endings (machine g fm) n (waiting_in g fm half count before)) ≡ none)
     × (settle (machine g fm) slots n (waiting_in g fm half count before) ≡ none)
-TurnTo g fm half count slots n before after t (Waiting more) =
+TurnTo g fm half count slots n before after (Waiting more) =
     (Runs.least (machine g fm) (Runs.endings (machine g fm) n (waiting_in g fm half count before)) ≡ none)
     × (settle (machine g fm) slots n (waiting_in g fm half count before) ≡ some (waiting_in g fm half more after))
     × Kept g fm half more after
 
-abbrev pub TurnIs : List ℕ → List ℕ → List ℕ → List ℕ → Rules → Moment → Seats → List ℕ → List ℕ → Turn → Type 0
-TurnIs l places f table rules m s before after r =
-    (g : Log) (fm : Formula) → Scene g fm l places f table rules m → Kept g fm s.half s.count before
-    → TurnTo g fm s.half s.count s.slots m.number before after r.thread r.outcome
+abbrev pub TurnIs : Code.Scene → Seats → List ℕ → List ℕ → Turn → Type 0
+TurnIs s z before after r =
+    (g : Log) (fm : Formula) → Stands g fm s → Kept g fm z.half z.count before → TurnTo g fm z.half z.count z.slots s.moment.number before after r
 
 -- the same, from the table of the formula's steps
 abbrev pub TurnOf : List ℕ → List ℕ → List ℕ → List ℕ → Rules → Moment → Seats → List ℕ → List ℕ → Turn → Type 0
 TurnOf l places f steps rules m s before after r =
     (g : Log) (fm : Formula) → Setting g fm f steps rules → Leads l places g → Loads g m → Kept g fm s.half s.count before
-    → TurnTo g fm s.half s.count s.slots m.number before after r.thread r.outcome
+    → TurnTo g fm s.half s.count s.slots m.number before after r
 
 -- a next waiting list has at most as many threads as there are slots
-abbrev pub Fits : ℕ → Outcome → Type 0
-Fits slots Found = Unit {0}
+abbrev pub Fits : ℕ → Turn → Type 0
+Fits slots (Found t) = Unit {0}
 Fits slots Crowded = Unit {0}
 Fits slots (Waiting more) = more ≤ slots
 
@@ -127,7 +122,7 @@ pub record Told (l places : List ℕ) (scope : Scope) (start end : ℕ) (seen : 
   pub seen_is : seen ≡ seen_to l places scope.rules.fields start
 
 -- the search's answer
-abbrev pub SearchedFrom : List ℕ → List ℕ → List ℕ → List ℕ → Scope → ℕ → ℕ → Latest → SearchAnswer → Type 0
+abbrev pub SearchedFrom : List ℕ → List ℕ → List ℕ → List ℕ → Scope → ℕ → ℕ → Latest → Result SearchAnswer Refusal → Type 0
 SearchedFrom l places f table scope start end seen r =
     (g : Log) (fm : Formula) → Given g fm l places f table scope → Told l places scope start end seen
     → r ≡ answer_of g fm (Runs.search (machine g fm) scope.slots start)
