@@ -25,6 +25,7 @@ const GATHER: u32 = 0x17;
 
 // "A configuration is a state, the held variables with values, and a counter per state"; a value is 0 where its variable is not held.
 // Of the 4 lists it holds only what guards read: their sums, their lengths, their numbers of different values.
+// Flags and values stay apart, as in the definition (`Config`) and as guards read them.
 #[derive(Clone, Copy)]
 pub struct Configuration {
     pub state: u32,
