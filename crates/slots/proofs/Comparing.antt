@@ -45,44 +45,48 @@ nat_cmp-is x y = by (ltb x y) refl (eqb x y) refl
         rw (p, compare_self y)
     by false e false f = rw (compare-gt x y (omega (arith, ltb-false x y e, eqb-false x y f)))
 
-module _ (k : ℕ → ℕ) (xs ys xr yr : List ℕ) (x y u v : ℕ) (r : Answer) (a : xs ≡ x ∷ xr) (b : ys ≡ y ∷ yr) (p : u ≡ k x) (q : v ≡ k y) (c : r ≡ nat_cmp u v) where
-  is : r ≡ side_of (compare (k x) (k y))
-  is = rw (c, p, q) (nat_cmp-is (k x) (k y))
+-- the keys of two trails compared, where xs and ys are left to compare
+module _ (k : ℕ → ℕ) (xs ys : List ℕ) (o : Ordering) (left : o ≡ lex (map k xs) (map k ys)) where
+  module _ (xr yr : List ℕ) (x y u v : ℕ) (r : Answer) (a : xs ≡ x ∷ xr) (b : ys ≡ y ∷ yr) (p : u ≡ k x) (q : v ≡ k y) (c : r ≡ nat_cmp u v) where
+    is : r ≡ side_of (compare (k x) (k y))
+    is = rw (c, p, q) (nat_cmp-is (k x) (k y))
 
-  -- the keys of the first words differ: they decide
-  pub keys-differ : is_ne r ≡ true → r ≡ side_of (lex (map k xs) (map k ys))
+    -- the keys of the first words differ: they decide
+    pub keys-differ : is_ne r ≡ true → r ≡ side_of o
+    unfolding lex
+    keys-differ h = rw (left, a, b) (by (compare (k x) (k y)) is)
+      where
+        by : (t : Ordering) → r ≡ side_of t → r ≡ side_of (then t (lex (map k xr) (map k yr)))
+        by Ordering.lt e = e
+        by Ordering.eq e = absurd (false≢true (ap is_ne (sym e) ∙ h))
+        by Ordering.gt e = e
+
+    -- they are the same: the rest decides
+    pub keys-same : is_ne r ≡ false → o ≡ lex (map k xr) (map k yr)
+    unfolding lex
+    keys-same h = rw (left, a, b) (by (compare (k x) (k y)) is)
+      where
+        by : (t : Ordering) → r ≡ side_of t → then t (lex (map k xr) (map k yr)) ≡ lex (map k xr) (map k yr)
+        by Ordering.lt e = absurd (true≢false (ap is_ne (sym e) ∙ h))
+        by Ordering.eq e = refl
+        by Ordering.gt e = absurd (true≢false (ap is_ne (sym e) ∙ h))
+
+  -- one list is at its end: the longer one comes after
+  pub keys-end : (m n : ℕ) → m + length ys ≡ n + length xs → (length xs ≡ 0) ⊎ (length ys ≡ 0) → nat_cmp m n ≡ side_of o
   unfolding lex
-  keys-differ h = rw (a, b) (by (compare (k x) (k y)) is)
+  keys-end m n e h = rw left (by xs ys e h)
     where
-      by : (o : Ordering) → r ≡ side_of o → r ≡ side_of (then o (lex (map k xr) (map k yr)))
-      by Ordering.lt e = e
-      by Ordering.eq e = absurd (false≢true (ap is_ne (sym e) ∙ h))
-      by Ordering.gt e = e
-
-  -- they are the same: the rest decides
-  pub keys-same : is_ne r ≡ false → lex (map k xs) (map k ys) ≡ lex (map k xr) (map k yr)
-  unfolding lex
-  keys-same h = rw (a, b) (by (compare (k x) (k y)) is)
-    where
-      by : (o : Ordering) → r ≡ side_of o → then o (lex (map k xr) (map k yr)) ≡ lex (map k xr) (map k yr)
-      by Ordering.lt e = absurd (true≢false (ap is_ne (sym e) ∙ h))
-      by Ordering.eq e = refl
-      by Ordering.gt e = absurd (true≢false (ap is_ne (sym e) ∙ h))
-
--- one list is at its end: the longer one comes after
-pub keys-end : (k : ℕ → ℕ) (xs ys : List ℕ) (m n : ℕ) → m + length ys ≡ n + length xs → (length xs ≡ 0) ⊎ (length ys ≡ 0)
-    → nat_cmp m n ≡ side_of (lex (map k xs) (map k ys))
-unfolding lex
-keys-end k [] [] m n e h =
-    let p : m ≡ n = omega arith in
-    rw p (nat_cmp-is n n ∙ ap side_of (compare_self n))
-keys-end k [] (y ∷ ys) m n e h = nat_cmp-is m n ∙ ap side_of (less-compare m n (omega arith))
-keys-end k (x ∷ xs) [] m n e h = nat_cmp-is m n ∙ ap side_of (compare-gt m n (omega arith))
-keys-end k (x ∷ xs) (y ∷ ys) m n e h = elim h [ inl p ↦ absurd (omega arith) | inr p ↦ absurd (omega arith) ]
+      by : (xs ys : List ℕ) → m + length ys ≡ n + length xs → (length xs ≡ 0) ⊎ (length ys ≡ 0) → nat_cmp m n ≡ side_of (lex (map k xs) (map k ys))
+      by [] [] e h =
+          let p : m ≡ n = omega arith in
+          rw p (nat_cmp-is n n ∙ ap side_of (compare_self n))
+      by [] (y ∷ ys) e h = nat_cmp-is m n ∙ ap side_of (less-compare m n (omega arith))
+      by (x ∷ xs) [] e h = nat_cmp-is m n ∙ ap side_of (compare-gt m n (omega arith))
+      by (x ∷ xs) (y ∷ ys) e h = elim h [ inl p ↦ absurd (omega arith) | inr p ↦ absurd (omega arith) ]
 
 -- first by one key, then by another
-pub first-then : (o p : Ordering) (r s : Answer) → r ≡ side_of o → (r ≡ Less → s ≡ Less) → (r ≡ Equal → s ≡ side_of p) → (r ≡ Greater → s ≡ Greater)
-    → is_gt s ≡ comes_after (then o p)
+pub first-then : (o p : Ordering) (r s : Answer) → r ≡ side_of o → (r ≡ Less → s ≡ Less) → (r ≡ Equal → s ≡ side_of p)
+    → (r ≡ Greater → s ≡ Greater) → is_gt s ≡ comes_after (then o p)
 first-then Ordering.lt p r s e l m g = ap is_gt (l e)
 first-then Ordering.eq p r s e l m g = ap is_gt (m e) ∙ gt-is p
   where

@@ -1,11 +1,8 @@
 -- `lists::lists_of` meets its contract: what is left of the trail gives the whole.
-use Rattle.std.proofs.Common.{◌∙◌, refl, sym, ap, take, replicate}
+use Rattle.std.proofs.Common.{◌∙◌, sym, ap, take, replicate}
 use Rattle.lists.specs.inner.Words.{read_back}
 use Rattle.lists.proofs.Steps.{back-next, back_done}
 use Rattle.lists.proofs.lists_of.Goals as goal
-
-pub loop-word-init : goal.loop-word-init
-loop-word-init c = refl
 
 pub loop-word-preserved : goal.loop-word-preserved
 loop-word-preserved c =

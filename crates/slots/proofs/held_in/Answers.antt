@@ -6,4 +6,8 @@ use Rattle.slots.proofs.held_in.Goals as goal
 
 pub returns : goal.returns
 returns c =
-    mapped is_set c.words_at.result c.map.result 0 false (search rules) (λ i h. let z = (c.map.ensures.items.at i 0 false (search rules)).2.met in search of_calls) ∙ ap (map is_set) c.words_at.ensures
+    mapped is_set c.words_at.result c.map.result 0 false (search rules)
+    (λ i h.
+    let z = (c.map.ensures.items.at i 0 false (search rules)).2.met in
+    search of_calls)
+    ∙ ap (map is_set) c.words_at.ensures

@@ -4,9 +4,6 @@ use Rattle.slots.specs.inner.Threads.{comes_after}
 use Rattle.slots.proofs.Slots.{later-there}
 use Rattle.slots.proofs.later_at.Goals as goal
 
-pub slice_bounds-comes_after-end : goal.slice_bounds-comes_after-end
-slice_bounds-comes_after-end c = omega arith
-
 pub returns : goal.returns
 returns c =
     let k = c.capped.result in

@@ -11,8 +11,10 @@ pub returns : goal.returns
 returns c =
     let t = c.args.t in
     let s : Sized t = search rules in
-    let m = c.map in
-    let f = mapped bit t.config.held m.result false 0 (search rules) (λ i h. let z = (m.ensures.items.at i false 0 (search rules)).2.met in search of_calls) in
+    let f = mapped bit t.config.held c.map.result false 0 (search rules)
+    (λ i h.
+    let z = (c.map.ensures.items.at i false 0 (search rules)).2.met in
+    search of_calls) in
     stored c.args.part.now t s c.copy_from_slice.new.self _ _ _ _ _ c.requires (c.copy_from_slice.ensures.after ∙ f)
     (mid-put 1 8 _ _ _ refl (search rules)) (mid-put 9 8 _ _ _ c.copy_from_slice-2.ensures.after s.values_8)
     (mid-put 17 16 _ _ _ c.copy_from_slice-3.ensures.after s.counters_16) (mid-put 33 12 _ _ _ c.copy_from_slice-4.ensures.after s.tallies_12)
