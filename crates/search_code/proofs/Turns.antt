@@ -31,7 +31,7 @@ use Rattle.threads.specs.declared.Rules.{Rules}
 use Rattle.threads.specs.declared.Moment.{Moment}
 use Rattle.threads.specs.declared.Seats.{Seats}
 use Rattle.threads.specs.declared.scene.Scene.{Scene}
-use Rattle.threads.specs.inner.Setting.{Setting, EventTable, Stands}
+use Rattle.threads.specs.inner.Setting.{Setting, EventTable, Stands, Scene as Standing}
 use Rattle.threads.specs.inner.Event.{Kept, waiting_in, EndingIs, SettledTo, SettledIs}
 use Rattle.refusal.specs.declared.Refusal.{Refusal}
 use Rattle.search_code.specs.declared.Turn.{Turn}
@@ -65,15 +65,18 @@ module _ (s : Scene) (z : Seats) (before after : List ℕ) where
     next-turn more a g fm x k = let h = settled (Some more) a g fm x k in (no-ending g fm x k, h.0, h.1)
 
 -- the event's table, from the table of the formula's steps
-pub turn-of : (x : Scene) (steps : List ℕ) (z : Seats) (before after : List ℕ) (r : Turn) → EventTable x.formula.now steps x.rules.rises x.moment x.table.now
-    → TurnIs x z before after r → TurnOf x.log.now x.places.now x.formula.now steps x.rules x.moment z before after r
-turn-of x steps z before after r o t g fm s leads loads k =
-    let setting = subst (λ (ys : List ℕ). Setting g fm x.formula.now ys x.rules) s.table_is s in
+pub turn-of : (l places f steps table : List ℕ) (rules : Rules) (m : Moment) (z : Seats) (before after : List ℕ) (r : Turn)
+    → EventTable f steps rules.rises m table
+    → ((g : Log) (fm : Formula) → Standing g fm l places f table rules m → Kept g fm z.half z.count before
+    → TurnTo g fm z.half z.count z.slots m.number before after r)
+    → TurnOf l places f steps rules m z before after r
+turn-of l places f steps table rules m z before after r o t g fm s leads loads k =
+    let setting = subst (λ (ys : List ℕ). Setting g fm f ys rules) s.table_is s in
     t g fm (record {
       setting = setting;
       leads = leads;
       loads = loads;
-      offsets = subst (λ (ys : List ℕ). EventTable x.formula.now ys x.rules.rises x.moment x.table.now) s.table_is o;
+      offsets = subst (λ (ys : List ℕ). EventTable f ys rules.rises m table) s.table_is o;
     }) k
 
 -- the values carried, event by event
@@ -146,9 +149,9 @@ module _ (l places f table : List ℕ) (scope : Scope) (i end : ℕ) (before : L
         ap Ok q ∙ going-over g fm f table scope.rules x.setting scope.slots i n half count width work (S g fm x d).0
         (omega (arith, h, end_same g fm l places f table scope i end before x d))
 
-    module _ (more : n < end) (loaded : Loaded) (there : loaded ≡ loaded_at l scope.rules.fields (get_or places n 0)) (after : List ℕ) (turn : Turn)
-        (is : TurnOf l places f table scope.rules (moment_of n seen loaded.event) (record { half = half; count = count; slots = scope.slots }) work
-        after turn) where
+    module _ (more : n < end) (loaded : Loaded) (there : loaded ≡ loaded_at l scope.rules.fields (get_or places n 0)) (m : Moment)
+        (now : m ≡ moment_of n seen loaded.event) (after : List ℕ) (turn : Turn)
+        (told : TurnOf l places f table scope.rules m (record { half = half; count = count; slots = scope.slots }) work after turn) where
       -- what the event does
       turned : (g : Log) (fm : Formula) → Given g fm l places f table scope → Told l places scope i end before
           → TurnTo g fm half count scope.slots n work after turn
@@ -156,6 +159,9 @@ module _ (l places f table : List ℕ) (scope : Scope) (i end : ℕ) (before : L
           let s = S g fm x d in
           let here = event-there g l places scope.rules.fields x.setting.log x.leads x.setting.fields_are n loaded seen
           (omega (arith, more, end-there g fm l places f table scope i end before x d)) there (s.2 more) in
+          let is =
+          subst (λ (y : Moment). TurnOf l places f table scope.rules y (record { half = half; count = count; slots = scope.slots }) work after turn) now told
+          in
           is g fm x.setting x.leads here s.0.kept
 
       -- the values carried on, inside the stretch
@@ -172,17 +178,17 @@ module _ (l places f table : List ℕ) (scope : Scope) (i end : ℕ) (before : L
       later-on : (m n' : ℕ) → n' ≡ cond (eqb m 0) end (n + 1) → i ≤ n → i ≤ n'
       later-on m n' o h = rw o (cond-holds (λ z. i ≤ z) (eqb m 0) end (n + 1) (λ e. omega (arith, h, more)) (λ e. omega (arith, h)))
 
-      pub searching-next : (m n' : ℕ) → turn ≡ Waiting m → n' ≡ cond (eqb m 0) end (n + 1)
-          → Searching l places f table scope i end before n' half m (max width m) after (later_of seen loaded.event)
-      searching-next m n' q o g fm x d =
+      pub searching-next : (k n' : ℕ) → turn ≡ Waiting k → n' ≡ cond (eqb k 0) end (n + 1)
+          → Searching l places f table scope i end before n' half k (max width k) after m.latest
+      searching-next k n' q o g fm x d =
           let y = subst (TurnTo g fm half count scope.slots n work after) q (turned g fm x d) in
           let s = S g fm x d in
           let same = end_same g fm l places f table scope i end before x d in
-          let go = going_next g fm f table scope.rules x.setting scope.slots i n half count width work s.0 m after
+          let go = going_next g fm f table scope.rules x.setting scope.slots i n half count width work s.0 k after
           (omega (arith, more, same)) y in (
-            going-onward g fm scope.slots i (n + 1) half m (max width m) after n' (o ∙ ap (λ e. cond (eqb m 0) e (n + 1)) same) go,
-            later-on m n' o s.1,
-            λ h. onward n' m o (s.2 more) (unmarked-inside g fm l places f table scope i end before x d n s.1) h,
+            going-onward g fm scope.slots i (n + 1) half k (max width k) after n' (o ∙ ap (λ e. cond (eqb k 0) e (n + 1)) same) go,
+            later-on k n' o s.1,
+            λ h. ap (λ (z : Moment). z.latest) now ∙ onward n' k o (s.2 more) (unmarked-inside g fm l places f table scope i end before x d n s.1) h,
           )
 
       pub searching-found : (t : Thread) (r : SearchAnswer) → turn ≡ Found t → r ≡ named_answer scope.rules.kinds t width

@@ -44,7 +44,7 @@ pub struct Files<'a> {
     pub formula: &'a [u8],
     pub steps: &'a [usize; 128],
     pub scope: Scope,
-    ghost sized: { (length places.now ≡ 1024) × (scope.events ≤ 1024) },
+    ghost few: { scope.events ≤ 1024 },
 }
 
 // The waiting list before the first event: the start configuration, in slot 0.
@@ -165,7 +165,11 @@ impl<'a> Files<'a> {
         ensures { (result ≡ stretch_end self.now.log.now self.now.places.now self.now.scope start) × (result ≤ self.now.scope.events) }
     {
         for n in start..self.scope.events {
-            let loaded = event_log_code::event_at(self.log, self.scope.rules.fields, self.places[n]);
+            let loaded = event_log_code::event_at(
+                self.log,
+                self.scope.rules.fields,
+                self.places[n],
+            );
             if event_log_code::mark_at(self.log, loaded.next) {
                 return n + 1;
             }
@@ -224,7 +228,11 @@ impl<'a> Files<'a> {
         let mut width: usize = 0;
         let mut seen = before;
         for n in start..end {
-            let loaded = event_log_code::event_at(self.log, self.scope.rules.fields, self.places[n]);
+            let loaded = event_log_code::event_at(
+                self.log,
+                self.scope.rules.fields,
+                self.places[n],
+            );
             let moment = moment_of(n, seen, loaded.event);
             let seats = Seats {
                 half: 0,
@@ -234,8 +242,10 @@ impl<'a> Files<'a> {
             match (&*self).at_event(work, seats, &wide, moment) {
                 Turn::Found(least) => return Ok(named(&least, &self.scope.rules, width)),
                 Turn::Crowded => return Err(Refusal::Crowded { place: n }),
-                Turn::Waiting(0) => break,
                 Turn::Waiting(more) => {
+                    if more == 0 {
+                        break;
+                    }
                     count = more;
                     width = width.max(more);
                     seen = moment.latest;
@@ -316,12 +326,7 @@ fn checked(
 }
 
 // The search from an event, over the bytes of the two files, with threads in the lent words.
-pub fn search(
-    l: &[u8],
-    f: &[u8],
-    start: usize,
-    work: &mut [u32],
-) -> Result<SearchAnswer, Refusal>
+pub fn search(l: &[u8], f: &[u8], start: usize, work: &mut [u32]) -> Result<SearchAnswer, Refusal>
     ensures { Searched l.now f.now start work.old work.new result }
 {
     let files = files_code::read_files(l, f)?;

@@ -9,4 +9,5 @@ returns-clause-by_index c steps w =
     let f = a.self.now.formula.now in
     let rises = a.self.now.scope.rules.rises in
     let e = wide-steps f steps rises a.moment a.wide.now w _ (c.mark_states.ensures.1 (wide-table f steps rises a.moment a.wide.now w)) in
-    turn-of _ steps a.seats a.work.now c.one_event.new.work c.one_event.result e c.one_event.ensures.turn_is
+    turn-of a.self.now.log.now a.self.now.places.now f steps c.mark_states.new.table a.self.now.scope.rules a.moment a.seats a.work.now
+    c.one_event.new.work c.one_event.result e c.one_event.ensures.turn_is
