@@ -6,7 +6,7 @@
 
 ghost use Rattle.std.specs.Prelude.{◌<◌};
 
-use refusal::Acceptance;
+use refusal::Report;
 use std::io;
 
 // The state, number and offset of each step of a table.
@@ -21,15 +21,14 @@ fn put_steps(rt: &impl Print, table: &[usize; 128]) -> io::Result<()> {
 
 // What the reader answers, on one line.
 fn show(rt: &impl Print, f: &[u8]) -> io::Result<()> {
-    let r = formula_code::read_formula(f, 2);
-    match r.acceptance {
-        Acceptance::Accepted => {
+    match formula_code::read_formula(f, 2) {
+        Ok(r) => {
             print!(rt; "accepted {}", r.states)?;
             put_steps(rt, &r.table)?;
             println!(rt; "")
         }
-        Acceptance::Refused(why) => {
-            let t = refusal::report_of(why);
+        Err(why) => {
+            let t = Report::from(why);
             println!(rt; "refused {} {} {}", t.file, t.number, t.place)
         }
     }

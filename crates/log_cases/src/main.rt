@@ -5,16 +5,15 @@
 
 ghost use Rattle.std.specs.Prelude.{◌<◌, ◌^◌};
 
-use refusal::Acceptance;
+use refusal::Report;
 use std::io;
 
 // What the reader answers, on one line.
 fn show(rt: &impl Print, l: &[u8]) -> io::Result<()> {
-    let r = event_log_code::read_log(l);
-    match r.acceptance {
-        Acceptance::Accepted => println!(rt; "accepted {} {}", r.fields, r.events),
-        Acceptance::Refused(why) => {
-            let t = refusal::report_of(why);
+    match event_log_code::read_log(l) {
+        Ok(r) => println!(rt; "accepted {} {}", r.fields, r.events),
+        Err(why) => {
+            let t = Report::from(why);
             println!(rt; "refused {} {} {}", t.file, t.number, t.place)
         }
     }

@@ -1,14 +1,13 @@
 -- "The program reads log.bin and formula.bin, lends 64 seats and prints one line an event": its text, in bytes.
-use Rattle.std.specs.Prelude.{ℕ, zero, suc, ◌+◌, ◌*◌, ◌/◌, ◌%◌, ◌^◌, cond, List, [], ◌∷◌, ◌++◌, length, get_or, take, drop, replicate, eqb, ltb}
+use Rattle.std.specs.Prelude.{ℕ, zero, suc, ◌+◌, ◌*◌, ◌/◌, ◌%◌, ◌^◌, cond, List, [], ◌∷◌, ◌++◌, length, get_or, take, drop, replicate, eqb, ltb, Result, Ok, Err}
 use Prim.Native.Char.{code}
 use Prim.Native.String as Quoted
 use Prim.Native.String.{String}
+use Rattle.refusal.specs.declared.Refusal.{Refusal}
 use Rattle.refusal.specs.declared.Report.{Report}
 use Rattle.refusal.specs.Refusals.{report_of}
 use Rattle.event_log.specs.File.{log_of}
 use Rattle.event_log.specs.Read.{Reading, accepted, refused, read_log}
-use Rattle.analysis.specs.declared.Outcome.{Outcome}
-use Rattle.analysis.specs.declared.Outcome.TheVariants.{Done, Refused}
 use Rattle.analysis.specs.Analysis.{analysis}
 
 -- the bytes of a quoted text of plain characters
@@ -71,9 +70,9 @@ unfoldable pub refused_line : Report → List ℕ
 refused_line t = ascii "refused" ++ (spaced t.file ++ (spaced t.number ++ (spaced t.place ++ ascii "\n")))
 
 -- all lines, or the refusal's alone
-abbrev pub text_of : ℕ → Outcome → List ℕ → List ℕ
-text_of events Done rows = lines events rows
-text_of events (Refused r) rows = refused_line (report_of r)
+abbrev pub text_of : ℕ → Result Unit Refusal → List ℕ → List ℕ
+text_of events (Ok done) rows = lines events rows
+text_of events (Err r) rows = refused_line (report_of r)
 
 -- the number of events of a log that is accepted
 abbrev pub events_in : Reading → ℕ

@@ -137,6 +137,7 @@ impl Page<'_> {
 }
 
 // Adds bytes behind the first `at` of the lent ones: where they end.
+// Bytes and an offset in place of a page, here and below: what public functions promise may not change.
 pub fn add(more: &[u8], out: &mut [u8], at: usize) -> usize
     requires { at + length more.now ≤ length out.old }
     ensures { Adds (length more.now) out.old at out.new result more.now }
@@ -160,6 +161,6 @@ pub fn refused_line(r: Refusal, out: &mut [u8; 256]) -> usize
     ensures { Written out.new result (Text.refused_line (report_of r)) }
 {
     let mut page = Page { out, at: 0 };
-    page.refusal(refusal::report_of(r));
+    page.refusal(Report::from(r));
     page.at
 }
