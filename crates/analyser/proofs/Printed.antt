@@ -6,13 +6,13 @@ use lib.ListN.{length, replicate, get_or, take, drop}
 use Rattle.std.proofs.lemmas.List.{drop-drop}
 use Rattle.std.specs.Simd.{first_chunks}
 use native.Mathlib.Omega.{arith}
+use Rattle.std.specs.Prelude.{Result, Ok, Err}
 use Rattle.base.specs.Lists.{Bytes}
 use Rattle.refusal.specs.declared.Refusal.{Refusal}
 use Rattle.refusal.specs.Refusals.{report_of}
+use Rattle.event_log.specs.declared.LogReading.{LogReading}
 use Rattle.event_log.specs.Read.{Reading, accepted, refused, read_log, answer_of}
 use Rattle.event_log.proofs.Accepted.{accepted-is-encoding}
-use Rattle.analysis.specs.declared.Outcome.{Outcome}
-use Rattle.analysis.specs.declared.Outcome.TheVariants.{Done, Refused}
 use Rattle.analysis.specs.Analysis.{analysis}
 use Rattle.analysis.specs.Call.{Analyses}
 use Rattle.text.specs.Text.{lines, refused_line, text_of, events_in, printed}
@@ -25,8 +25,12 @@ row-of (suc k) (suc n) rows d h =
     let e : 12 + n * 12 ≡ suc n * 12 = omega arith in
     row-of k n (drop 12 rows) d (omega arith) ∙ ap (take 12) (drop-drop (n * 12) 12 rows ∙ ap (λ i. drop i rows) e)
 
--- the events that the reader counts are those of the log
-pub events_are : (r : Reading) → (answer_of r).events ≡ events_in r
+-- the events that the reader counts are those of the log; none where it refuses
+abbrev pub counted : Result LogReading Refusal → ℕ
+counted (Ok r) = r.events
+counted (Err why) = 0
+
+pub events_are : (r : Reading) → counted (answer_of r) ≡ events_in r
 unfolding answer_of
 events_are (accepted t) = refl
 events_are (refused r) = refl
@@ -44,19 +48,19 @@ abbrev printed_with : List ℕ → List ℕ → ℕ → List ℕ → List ℕ
 printed_with l f words lent = let a = analysis l f words lent in text_of (events_in (read_log l)) a.outcome a.rows
 
 -- what a call leaves is printed where 64 slots and 1,024 rows are lent: the lines of all rows, or the refusal's
-module _ (l f : List ℕ) {work work-after lent rows : List ℕ} {o : Outcome}
+module _ (l f : List ℕ) {work work-after lent rows : List ℕ} {o : Result Unit Refusal}
     (left : Analyses l f work work-after lent rows o)
     (w : length work ≡ 64 * 192) (r : lent ≡ replicate (12 * 1024) 0) where
   as-printed : printed_with l f (length work) lent ≡ printed l f
   unfolding printed
   as-printed = ap (λ n. printed_with l f n lent) w ∙ ap (printed_with l f (64 * 192)) r
 
-  pub done-text : (n : ℕ) → o ≡ Done → n ≡ events_in (read_log l) → lines n rows ≡ printed l f
+  pub done-text : (n : ℕ) → o ≡ Ok tt → n ≡ events_in (read_log l) → lines n rows ≡ printed l f
   done-text n d e =
       let t : lines n rows ≡ printed_with l f (length work) lent = rw (e, ← left.outcome, d, left.rows) in
       t ∙ as-printed
 
-  pub refused-text : (why : Refusal) → o ≡ Refused why → refused_line (report_of why) ≡ printed l f
+  pub refused-text : (why : Refusal) → o ≡ Err why → refused_line (report_of why) ≡ printed l f
   refused-text why d =
       let t : refused_line (report_of why) ≡ printed_with l f (length work) lent = rw (← left.outcome, d) in
       t ∙ as-printed

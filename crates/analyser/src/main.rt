@@ -2,12 +2,12 @@
 // Where the system refuses to open, read or write, it stops, and a line on standard error says what failed and why.
 #![tactic(auto)]
 
-ghost use Rattle.std.specs.Prelude.{◌+◌, ◌≤◌, length, IfOk};
+ghost use Rattle.std.specs.Prelude.{◌≡◌, ◌+◌, ◌≤◌, length, IfOk};
 ghost use Rattle.refusal.specs.Refusals.{report_of};
+ghost use Rattle.event_log.specs.Read.{read_log};
 ghost use Rattle.text.specs.inner.Adds.{Adds};
-ghost use Rattle.text.specs.Text.{line, lines, refused_line, printed};
+ghost use Rattle.text.specs.Text.{line, lines, refused_line, events_in, printed};
 
-use analysis::Outcome;
 use refusal::Refusal;
 use std::fs::File;
 use std::io;
@@ -83,6 +83,16 @@ fn refusal_in(r: Refusal, out: &mut [u8]) -> usize
     text::add(&text[..end], out, 0)
 }
 
+// How many events a log has; none if it is refused.
+fn events_in(l: &[u8]) -> usize
+    ensures { result ≡ events_in (read_log l.now) }
+{
+    match event_log_code::read_log(l) {
+        Ok(log) => log.events,
+        Err(_) => 0,
+    }
+}
+
 // Analyses two files: the text that is to be printed, and where it ends.
 fn answer(l: &[u8], f: &[u8], out: &mut [u8]) -> usize
     requires { 262144 ≤ length out.old }
@@ -91,11 +101,8 @@ fn answer(l: &[u8], f: &[u8], out: &mut [u8]) -> usize
     let mut work = [0; 12288];
     let mut rows = [0; 12288];
     match analysis_code::analyse(l, f, &mut work, &mut rows) {
-        Outcome::Done => {
-            let reading = event_log_code::read_log(l);
-            lines_in(&rows, reading.events, out)
-        }
-        Outcome::Refused(r) => refusal_in(r, out),
+        Ok(()) => lines_in(&rows, events_in(l), out),
+        Err(why) => refusal_in(why, out),
     }
 }
 
