@@ -23,7 +23,7 @@ use Rattle.event_log.specs.Read as LogRead
 use Rattle.formula.specs.Formula.{Formula, Step}
 use Rattle.formula.specs.Lookup.{step_at}
 use Rattle.machine.specs.Configuration.{Config}
-use Rattle.machine.specs.Firing.{gather_all, leave, fires, fire}
+use Rattle.machine.specs.Firing.{leave, fires, fire}
 use Rattle.machine.specs.inner.Along.{gathered}
 use Rattle.slots.specs.inner.Threads.{trail_of}
 use Rattle.machine.proofs.Walk.{fire-fields}
@@ -34,7 +34,7 @@ use Rattle.threads.specs.declared.Moment.{Moment}
 use Rattle.threads.specs.inner.Calls.{FiredBy}
 use Rattle.machine.specs.Expiry.{is_rising, rises}
 use Rattle.machine.specs.Machine.{fire_by, fire_at}
-use Rattle.machine_code.specs.inner.Bytes.{Firing, offset_of, config_of, fired}
+use Rattle.machine_code.specs.inner.Bytes.{Firing, offset_of, fired}
 use Rattle.machine_code.proofs.FiringOnBytes.{StepAt, Ready, Carries, ready, fire-encode}
 use Rattle.machine_code.proofs.SameMachine.{StepThere, Charted}
 use Rattle.machine_code.proofs.Offsets as Lookup

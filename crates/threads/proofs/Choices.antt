@@ -112,11 +112,6 @@ module _ (g : Log) (fm : Formula) (t : Thread) (n : ℕ) where
 
 -- in a committed state, where no move ends a run, the lowest of the steps that end no run is the lowest of all
 pub lowest-open : (s : Scene) (t : Thread) (r : Maybe ℕ) → FirstTakenIs s t false r → LowestByIs s t true r
-lowest-open s t None x = (tt, λ g fm stands w e o. quiet-before g fm t s.moment.number e (o refl) 8 (omega arith) (x g fm stands w))
-lowest-open s t (Some k) x = (
-  x.0,
-  λ g fm stands w e o. (
-    quiet-before g fm t s.moment.number e (o refl) k (omega (arith, x.0)) (x.1 g fm stands w),
-    x.2 g fm stands w,
-  ),
-)
+lowest-open s t None x g fm stands w e o = quiet-before g fm t s.moment.number e (o refl) 8 (omega arith) (x g fm stands w)
+lowest-open s t (Some k) x g fm stands w e o =
+    (quiet-before g fm t s.moment.number e (o refl) k (omega (arith, x.0)) (x.1 g fm stands w), x.2 g fm stands w)

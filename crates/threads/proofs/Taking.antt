@@ -18,7 +18,7 @@ use Rattle.slots.specs.declared.Thread.{Thread}
 use Rattle.slots.specs.inner.Threads.{trail_of}
 use Rattle.threads.specs.declared.scene.Scene.{Scene}
 use Rattle.threads.specs.inner.Setting.{Stands, Fit, conf}
-use Rattle.threads.specs.inner.Calls.{LeadsIs, FreshIs, Passed, FirstTakenIs, EndsNothing}
+use Rattle.threads.specs.inner.Calls.{LeadsIs, FreshIs, Passed, FirstTakenIs, EndsNothing, StepNumber}
 use Rattle.threads.proofs.Charts.{event-values}
 use Rattle.threads.proofs.Tables.{fires-not}
 
@@ -50,3 +50,8 @@ pub nothing-taken : (s : Scene) (t : Thread) (r : Maybe ℕ) → FirstTakenIs s 
     → Fit g fm t → EndsNothing g fm t s.moment.number
 nothing-taken s t None x e g fm stands w = x g fm stands w
 nothing-taken s t (Some k) x e g fm stands w = absurd (true≢false e)
+
+-- one that was found is one of eight
+pub taken-number : (s : Scene) (t : Thread) (ends : Bool) (r : Maybe ℕ) → FirstTakenIs s t ends r → StepNumber r
+taken-number s t ends None x = tt
+taken-number s t ends (Some k) x = x.0

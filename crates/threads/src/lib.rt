@@ -9,7 +9,7 @@ pub mod table;
 
 ghost use Rattle.std.specs.Prelude.{◌≡◌, false, IfSome, ◌+◌, ◌-◌, ◌*◌, ◌≤◌, ◌<◌, leb, eqb, length, get_or};
 ghost use Rattle.threads.specs.inner.Event.{Seated, EndingIs, SettledIs};
-ghost use Rattle.threads.specs.inner.Calls.{MovedIs, LowestByIs, ChoiceIs, BetterIs, MayEndIs, EndedIs, WaitsIs, OfferIs, OfferMoveIs, OfferMovesIs, RemainIs, IdlesIs, SiftOneIs, SiftIs, MergeIs};
+ghost use Rattle.threads.specs.inner.Calls.{MovedIs, StepNumber, LowestIs, FirstTakenIs, ChoiceIs, BetterIs, MayEndIs, EndedIs, WaitsIs, OfferIs, OfferMoveIs, OfferMovesIs, RemainIs, IdlesIs, SiftOneIs, SiftIs, MergeIs};
 ghost use Rattle.slots.specs.inner.Words.{thread_at, place};
 
 use event_log::{Event, Latest};
@@ -17,7 +17,8 @@ pub use scene::Scene;
 use slots::Thread;
 
 // What stays from event to event: the kind of each state (0 ordinary, 1 committed, 2 accept, 3 reject), which fields
-// rise, how many fields the log has, and states some step of which never expires.
+// rise, how many fields the log has, and states some step of which never expires. A kind stays a number: it is the file's own byte, as its
+// reader (formula_code) has it and `Setting.kinds_are` says.
 #[derive(Clone, Copy)]
 pub struct Rules {
     pub kinds: [u32; 16],
@@ -114,22 +115,12 @@ impl Scene<'_> {
         }
     }
 
-    // The number of the lowest numbered step of a thread in a committed state that fires on the event; `endless` says that it is
-    // known to end no run there, so that steps that end runs need not be tried.
-    fn lowest_by(&self, t: &Thread, endless: bool) -> Option<u32>
-        ensures { LowestByIs self.now t.now endless result }
-    {
-        if endless {
-            self.first_taken(t, false)
-        } else {
-            self.lowest_at(t)
-        }
-    }
-
-    // What a thread may do on the event: in a committed state the lowest numbered step that fires is taken; else each step, and
-    // once the first step is taken they may be passed over. `endless` says that it is known to end no run there.
-    fn choice_of(&self, t: &Thread, endless: bool) -> Choice
-        ensures { ChoiceIs self.now t.now endless result }
+    // What a thread may do on the event: in a committed state the lowest numbered step that fires is taken, which `lowest` finds; else
+    // each step, and once the first step is taken they may be passed over.
+    fn choice_of<F: FnOnce() -> Option<u32>>(&self, t: &Thread, lowest: F) -> Choice
+        requires callable { F.IsAlwaysCallable lowest }
+        requires number { (r : _) → F.post lowest r → StepNumber r }
+        ensures { ChoiceIs self.now t.now (F.post lowest) result }
     {
         let begun = 0 < t.steps;
         if !self.rules.is_committed(t.config.state) {
@@ -139,7 +130,7 @@ impl Scene<'_> {
                 stays: begun,
             };
         }
-        match self.lowest_by(t, endless) {
+        match lowest() {
             Some(k) => Choice {
                 from: k,
                 to: k + 1,
@@ -176,7 +167,10 @@ impl Scene<'_> {
     fn ending_of(&self, best: &mut Option<Thread>, t: &Thread)
         ensures { EndedIs self.now best.old t.now best.new }
     {
-        let choice = self.choice_of(t, false);
+        let lowest = ||
+            ensures { LowestIs self.entry.now t.entry.now result }
+        { self.lowest_at(t) };
+        let choice = self.choice_of(t, lowest);
         for k in choice.from..choice.to {
             self.better(best, t, k);
         }
@@ -305,7 +299,11 @@ impl Scene<'_> {
             });
         }
         let t = slots::load_slot(work, j, seats.half);
-        let choice = self.choice_of(&t, true);
+        // No thread ends a run, so steps that end runs need not be tried.
+        let lowest = ||
+            ensures { FirstTakenIs self.entry.now t false result }
+        { self.first_taken(&t, false) };
+        let choice = self.choice_of(&t, lowest);
         let across = Seats {
             half: 1 - seats.half,
             count: done.moved,

@@ -45,7 +45,7 @@ impl Scene<'_> {
     }
 
     // The number of the lowest numbered step of a thread's state that fires on the event and ends a run, or, with `ends` false, that fires
-    // and ends none.
+    // and ends none. `ends` stays a test: it is compared with what a step does and selects no code.
     pub fn first_taken(&self, t: &Thread, ends: bool) -> Option<u32>
         ensures { FirstTakenIs self.now t.now ends result }
     {

@@ -126,11 +126,11 @@ LowestIs s t r = StepNumber r × ((g : Log) (fm : Formula) → Stands g fm s →
 abbrev pub NoEnding : Log → Formula → Thread → ℕ → Type 0
 NoEnding g fm t n = keep (Runs.ended (machine g fm)) (Runs.moves (machine g fm) n (thread g fm t)) ≡ []
 
+-- r is the lowest step of a thread in a committed state, if it is known to end no run there
 abbrev pub LowestByIs : Scene → Thread → Bool → Option ℕ → Type 0
 LowestByIs s t endless r =
-    StepNumber r
-    × ((g : Log) (fm : Formula) → Stands g fm s → Fit g fm t → committed fm (conf g fm t) ≡ true → (endless ≡ true → NoEnding g fm t s.moment.number)
-    → Lowest g fm (conf g fm t) s.moment.number r)
+    (g : Log) (fm : Formula) → Stands g fm s → Fit g fm t → committed fm (conf g fm t) ≡ true → (endless ≡ true → NoEnding g fm t s.moment.number)
+    → Lowest g fm (conf g fm t) s.moment.number r
 
 -- "In an ordinary state, steps may be passed over. In a committed state the lowest numbered step that fires is taken": the moves
 -- are those of a range of steps
@@ -138,10 +138,12 @@ pub record Chosen (g : Log) (fm : Formula) (t : Thread) (n : ℕ) (r : Choice) :
   pub moves_are : Runs.moves (machine g fm) n (thread g fm t) ≡ Runs.firing (machine g fm) (thread g fm t) n r.from (r.to - r.from)
   pub stays_is : r.stays ≡ Runs.stays (machine g fm) n (thread g fm t)
 
-abbrev pub ChoiceIs : Scene → Thread → Bool → Choice → Type 0
-ChoiceIs s t endless r =
+-- where what was found as the lowest step is that, if the thread is known to end no run
+abbrev pub ChoiceIs : Scene → Thread → (Option ℕ → Type 0) → Choice → Type 0
+ChoiceIs s t Found r =
     (r.to ≤ 8)
-    × ((g : Log) (fm : Formula) → Stands g fm s → Fit g fm t → (endless ≡ true → NoEnding g fm t s.moment.number) → Chosen g fm t s.moment.number r)
+    × ((endless : Bool) → ((k : Option ℕ) → Found k → LowestByIs s t endless k)
+    → (g : Log) (fm : Formula) → Stands g fm s → Fit g fm t → (endless ≡ true → NoEnding g fm t s.moment.number) → Chosen g fm t s.moment.number r)
 
 -- ---- the least run that ends
 

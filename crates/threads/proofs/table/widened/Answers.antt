@@ -16,7 +16,8 @@ loop-i-init c = record {
 
 pub loop-i-preserved : goal.loop-i-preserved
 loop-i-preserved c =
-    copied_next c.args.steps.now c.loop-i.table c.loop-i.i (get_or c.args.steps.now c.loop-i.i 0) c.loop-i-test.true refl c.loop-i.invariant
+    copied_next c.args.steps.now c.loop-i.table c.loop-i.i (get_or c.args.steps.now c.loop-i.i 0) (omega (arith, c.loop-i-test.true)) refl
+    c.loop-i.invariant
 
 pub returns : goal.returns
 returns c =

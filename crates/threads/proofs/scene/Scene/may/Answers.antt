@@ -8,7 +8,7 @@ use lib.ListN.{length, get_or}
 use borrow.Author.Tests.{not-false}
 use Rattle.runs.proofs.Least.{some≢none}
 use Rattle.machine.specs.Machine.{final}
-use Rattle.machine_code.specs.inner.Bytes.{offset_of, is_step, fired}
+use Rattle.machine_code.specs.inner.Bytes.{offset_of, is_step}
 use Rattle.threads.proofs.Lasting.{is-there}
 use Rattle.threads.proofs.Tables.{fires-none, fires-barred}
 use Rattle.threads.proofs.Targets.{target-inside, target-final}

@@ -1,5 +1,5 @@
 -- `may_end` meets its contract: by the event's table, then by what the thread holds.
-use mathlib.Core.Path.{refl, ap, sym, ◌∙◌}
+use mathlib.Core.Path.{ap, sym, ◌∙◌}
 use Rattle.runs.proofs.Least.{some≢none}
 use Rattle.machine_code.specs.inner.Bytes.{offset_of}
 use Rattle.slots.specs.inner.Words.{thread_at, place}

@@ -1,7 +1,7 @@
 -- The moves one by one: what is left to insert gives the whole, and the words of the other half stay.
 use Prim.Native.Nat.{ℕ, ◌-◌, ◌+◌}
 use mathlib.Core.List.{List}
-use mathlib.Core.Path.{refl, ◌∙◌}
+use mathlib.Core.Path.{refl}
 use native.Mathlib.Omega.{arith}
 use Rattle.runs.specs.inner.Threads.{insert_within}
 use Rattle.runs.specs.inner.Search as Runs
