@@ -49,7 +49,7 @@ module _ (g : Log) (fm : Formula) (t : Thread) (n : ℕ) where
   lowest-none k low h j l = silent j (low.before j (omega (arith, l, h)))
 
   -- in a committed state, where no move ends a run: steps before k that end runs, where they fire, do not fire
-  pub quiet-before : committed fm (conf g fm t) ≡ true → NoEnding g fm t n → (k : ℕ) → k ≤ 8
+  quiet-before : committed fm (conf g fm t) ≡ true → NoEnding g fm t n → (k : ℕ) → k ≤ 8
       → ((j : ℕ) → j < k → (d : Config) → fire_at g fm (conf g fm t) n j ≡ some d → final fm d ≡ true) → (j : ℕ) → j < k → fire_at g fm (conf g fm t) n j ≡ none
   unfolding keep
   quiet-before e o zero l h = λ j b. absurd (omega (arith, b))

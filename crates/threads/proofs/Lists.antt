@@ -7,7 +7,6 @@ use native.Mathlib.Omega.{arith}
 use lib.ListN.{length, get_or, drop, take, replicate, length-drop}
 use lib.Seq.{get_or-drop, get_or-append-add, ext_get_or, length-take-le}
 use lib.Dec.{eqb}
-use borrow.Author.Tests.{eqb-true, eqb-false}
 use Rattle.base.specs.Lists.{All, same_list}
 use Rattle.event_log.specs.Log.{Values, Log, field}
 use Rattle.event_log.proofs.LastSeen.{length-event}
@@ -88,14 +87,6 @@ all_set : (n j : ℕ) → j < n → get_or (replicate n true) j false ≡ true
 all_set zero j h = absurd (omega arith)
 all_set (suc n) zero h = refl
 all_set (suc n) (suc j) h = all_set n j (omega arith)
-
--- the lengths among the tallies before the v-th are 0, and the v-th too
-pub empty-next : (ts : List ℕ) (v : ℕ) → ((u : ℕ) → 4 + u < v → get_or ts (4 + u) 0 ≡ 0) → get_or ts v 0 ≡ 0 → (u : ℕ) → 4 + u < v + 1 → get_or ts (4 + u) 0 ≡ 0
-empty-next ts v before here u h = go (eqb (4 + u) v) refl
-  where
-    go : (b : Bool) → eqb (4 + u) v ≡ b → get_or ts (4 + u) 0 ≡ 0
-    go true e = ap (λ i. get_or ts i 0) (eqb-true (4 + u) v e) ∙ here
-    go false e = let ne = eqb-false (4 + u) v e in before u (omega arith)
 
 -- four lists without values
 empties : (ms : List (List ℕ)) → length ms ≡ 4 → ((v : ℕ) → v < 4 → length (list_of ms v) ≡ 0) → ms ≡ replicate 4 []

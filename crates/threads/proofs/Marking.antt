@@ -1,4 +1,4 @@
--- An event's table stays one where the event alone keeps a step from firing, or makes it expired, and its entry is made 0.
+-- An event's table before the event says anything, in its three parts, and those parts copied entry by entry.
 use Rattle.event_log.specs.Arrays.{in_event, in_latest}
 use Prim.Native.Nat.{ℕ, ◌+◌, ◌<◌, ◌≤◌}
 use mathlib.Core.Path.{◌≡◌, refl, sym, subst, ◌∙◌}
@@ -9,10 +9,8 @@ use borrow.Author.Tests.{eqb-true, eqb-false}
 use lib.Dec.{eqb}
 use lib.ListN.{length, get_or, set, length-set}
 use lib.Seq.{get_or-set_same, get_or-set_other}
-use Rattle.machine_code.specs.declared.Configuration.{Configuration}
-use Rattle.machine_code.specs.inner.Bytes.{fired, lapsed}
 use Rattle.threads.specs.declared.Moment.{Moment}
-use Rattle.threads.specs.inner.Setting.{EventTable, Firing, stands, barred, Lasting, lasts, due, Wide}
+use Rattle.threads.specs.inner.Setting.{EventTable, Firing, stands, Lasting, lasts, Wide}
 
 module _ (f steps : List ℕ) (rises : List Bool) (m : Moment) (table : List ℕ) where
   -- the table before the event says anything
@@ -34,44 +32,6 @@ module _ (f steps : List ℕ) (rises : List Bool) (m : Moment) (table : List ℕ
         lapses = λ i h. subst (λ x. Lasting f rises (in_latest m.latest) x (get_or entries (128 + i) 0)) (w.first i h) (e.lapses i h);
         plain = λ i h. e.plain i h ∙ w.first i h;
       }
-
-  module _ (i : ℕ) (h : i < 128) (e : EventTable f steps rises m table) where
-    pub barred-more : ((fresh : List Bool) (c : Configuration) → (fired f (get_or steps i 0) c fresh (in_event m.event)).fires ≡ false)
-        → EventTable f steps rises m (set table i 0)
-    barred-more q =
-        record {
-          sized = length-set table i 0 ∙ e.sized;
-          fires = λ j l. by j l (eqb j i) refl;
-          lapses = λ j l. subst (Lasting f rises (in_latest m.latest) (get_or steps j 0))
-              (sym (get_or-set_other table i (128 + j) 0 0 (λ z. omega (arith, z)))) (e.lapses j l);
-          plain = λ j l. get_or-set_other table i (256 + j) 0 0 (λ z. omega (arith, z)) ∙ e.plain j l;
-        }
-      where
-        by : (j : ℕ) → j < 128 → (z : Bool) → eqb j i ≡ z → Firing f (in_event m.event) (get_or steps j 0) (get_or (set table i 0) j 0)
-        by j l true z =
-            subst (λ k. Firing f (in_event m.event) (get_or steps k 0) (get_or (set table i 0) k 0)) (sym (eqb-true j i z))
-            (barred (get_or-set_same table i 0 0 (omega (arith, e.sized))) q)
-        by j l false z = subst (Firing f (in_event m.event) (get_or steps j 0)) (sym (get_or-set_other table i j 0 0 (eqb-false j i z))) (e.fires j l)
-
-    pub due-more : ((fresh : List Bool) (c : Configuration) → lapsed f (get_or steps i 0) c fresh rises (in_latest m.latest) ≡ true)
-        → EventTable f steps rises m (set table (128 + i) 0)
-    due-more q =
-        record {
-          sized = length-set table (128 + i) 0 ∙ e.sized;
-          fires = λ j l. subst (Firing f (in_event m.event) (get_or steps j 0))
-              (sym (get_or-set_other table (128 + i) j 0 0 (λ z. omega (arith, z)))) (e.fires j l);
-          lapses = λ j l. by j l (eqb j i) refl;
-          plain = λ j l. get_or-set_other table (128 + i) (256 + j) 0 0 (λ z. omega (arith, z)) ∙ e.plain j l;
-        }
-      where
-        by : (j : ℕ) → j < 128 → (z : Bool) → eqb j i ≡ z
-            → Lasting f rises (in_latest m.latest) (get_or steps j 0) (get_or (set table (128 + i) 0) (128 + j) 0)
-        by j l true z =
-            subst (λ k. Lasting f rises (in_latest m.latest) (get_or steps k 0) (get_or (set table (128 + i) 0) (128 + k) 0)) (sym (eqb-true j i z))
-            (due (get_or-set_same table (128 + i) 0 0 (omega (arith, e.sized))) q)
-        by j l false z =
-            subst (Lasting f rises (in_latest m.latest) (get_or steps j 0))
-            (sym (get_or-set_other table (128 + i) (128 + j) 0 0 (λ y. eqb-false j i z (omega (arith, y))))) (e.lapses j l)
 
 -- what the first n entries of each part have
 abbrev Has : List ℕ → List ℕ → ℕ → ℕ → Type 0

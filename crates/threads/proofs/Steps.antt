@@ -4,7 +4,7 @@ use mathlib.Core.Path.{◌≡◌, refl, ap, sym, ◌∙◌, subst}
 use mathlib.Core.List.{List, [], ◌∷◌, ◌++◌, map}
 use mathlib.Core.Option.{Option, none, some}
 use native.Mathlib.Omega.{arith}
-use Rattle.std.specs.Prelude.{Some, None}
+use Rattle.std.specs.Prelude.{Some}
 use lib.Dec.{ltb}
 use lib.ListN.{length, take, length-set, length-map}
 use lib.Seq.{length-take-le}
@@ -112,20 +112,3 @@ module _ (g : Log) (fm : Formula) (f table : List ℕ) (rules : Rules) (s : Sett
       by : (o : Option Config) → fire_at g fm (conf g fm t) n k ≡ o → FiredBy o t (Some m) → MovedBy g fm o t n k (Some r)
       by none q x = absurd cc
       by (some d) q x = record { is = stepped-is d m r q x w; fit = stepped-fit d m r q x w }
-
-  -- a step that does not fire
-  pub moved-silent : FiredBy (fire_at g fm (conf g fm t) n k) t None → MovedBy g fm (fire_at g fm (conf g fm t) n k) t n k None
-  moved-silent h = by (fire_at g fm (conf g fm t) n k) h
-    where
-      by : (o : Option Config) → FiredBy o t None → MovedBy g fm o t n k None
-      by none x = refl
-      by (some d) x = x
-
-  -- no thread of a search has so many steps
-  pub moved-long : (m : Thread) → FiredBy (fire_at g fm (conf g fm t) n k) t (Some m) → 32 ≤ m.steps
-      → MovedBy g fm (fire_at g fm (conf g fm t) n k) t n k None
-  moved-long m h l = by (fire_at g fm (conf g fm t) n k) h
-    where
-      by : (o : Option Config) → FiredBy o t (Some m) → MovedBy g fm o t n k None
-      by none x = refl
-      by (some d) x = absurd (omega (arith, x.same_steps, go.short))

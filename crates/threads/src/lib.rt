@@ -7,7 +7,7 @@ mod scene;
 mod step;
 pub mod table;
 
-ghost use Rattle.std.specs.Prelude.{◌≡◌, false, IfSome, ◌+◌, ◌-◌, ◌*◌, ◌≤◌, ◌<◌, leb, eqb, length, get_or};
+ghost use Rattle.std.specs.Prelude.{◌≡◌, false, IfSome, ◌+◌, ◌*◌, ◌≤◌, ◌<◌, leb, eqb, length, get_or};
 ghost use Rattle.threads.specs.inner.Event.{Seated, EndingIs, SettledIs};
 ghost use Rattle.threads.specs.inner.Calls.{MovedIs, StepNumber, LowestIs, FirstTakenIs, ChoiceIs, BetterIs, MayEndIs, EndedIs, WaitsIs, OfferIs, OfferMoveIs, OfferMovesIs, RemainIs, IdlesIs, SiftOneIs, SiftIs, MergeIs};
 ghost use Rattle.slots.specs.inner.Words.{thread_at, place};

@@ -1,7 +1,7 @@
 // The table of an event, derived from the reader's table of steps and from nothing else, in three parts: where each step stands, in
 // the first 0 where the event alone keeps the step from firing, in the second 0 where the last present values alone make it expired. A
 // TEST reads no variable, so that one look serves every thread.
-ghost use Rattle.std.specs.Prelude.{◌<◌, length};
+ghost use Rattle.std.specs.Prelude.{◌<◌};
 ghost use Rattle.threads.specs.inner.Event.{Seated};
 ghost use Rattle.threads.specs.inner.Setting.{Wide, MarkedIs, LastsAt, LastingIs, QuietIs};
 
@@ -46,12 +46,7 @@ pub fn lasting(f: &[u8], steps: &[usize; 128], rises: &[bool; 8]) -> [bool; 16]
 pub fn is_quiet(table: &[usize], s: u32) -> bool
     ensures { QuietIs table.now s result }
 {
-    for k in 0..8 {
-        if step_offset(table, s, k) != 0 {
-            return false;
-        }
-    }
-    true
+    (0..8).all(|k| step_offset(table, s, k) == 0)
 }
 
 // What tells an event's table: the formula's bytes, the table of its steps, which fields rise, and the event.

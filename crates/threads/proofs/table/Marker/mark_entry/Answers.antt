@@ -1,1 +1,0 @@
--- `mark_entry` meets its contract: an entry is made 0 only where the step's mark says so.
