@@ -128,7 +128,7 @@ fn take_bind(part: Part<'_>, fields: usize) -> Result<Taken, Refusal>
 fn is_again(seen: [bool; 4], b: u8) -> bool
     ensures { result ≡ again seen b }
 {
-    is_list(b) && seen[usize::from(b) - 8]
+    is_list(u32::from(b)) && seen[usize::from(b) - 8]
 }
 
 // A GATHER in a step that gathers into the lists marked, or its refusal.
@@ -140,7 +140,7 @@ fn take_gather(part: Part<'_>, fields: usize, seen: [bool; 4]) -> Result<Taken, 
     }
     let f = usize::from(part.byte(1));
     let v = part.byte(2);
-    let exist = f < fields && is_list(v);
+    let exist = f < fields && is_list(u32::from(v));
     if is_again(seen, v) {
         return Err(Refusal::Twice { place: part.at });
     }

@@ -193,7 +193,7 @@ fn count_head(part: Part<'_>, places: &mut [usize; 145]) -> Result<usize, Refusa
 }
 
 // Whether a byte names a list.
-pub fn is_list(b: u8) -> bool
+pub fn is_list(b: u32) -> bool
     ensures { result ≡ is_list b }
 {
     (8..12).contains(&b)
@@ -204,7 +204,7 @@ fn list_head(part: Part<'_>) -> Result<usize, Refusal>
     ensures is { result ≡ list_head part.entry.at part.entry.bytes.now }
     ensures inside { IfOk result (λ used. used ≤ length part.entry.bytes.now) }
 {
-    if !is_list(part.operand()?) {
+    if !is_list(u32::from(part.operand()?)) {
         return Err(part.absent());
     }
     Ok(2)

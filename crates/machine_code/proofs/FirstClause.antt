@@ -8,7 +8,7 @@ use borrow.Author.Tests.{ltb-true, ltb-false, eqb-false, not-true}
 use lib.ListN.{length, get_or, get_or-eq_default}
 use lib.Dec.{ltb, eqb}
 use Rattle.std.specs.Prelude.{Result, Ok, Err, MatchResult}
-use Rattle.core.specs.Result.{is_ok, result_ok}
+use Rattle.std.specs.Result.{is_ok, result_ok}
 use Rattle.event_log.specs.Log.{Values}
 use Rattle.machine_code.specs.inner.Bytes.{width_of}
 use Rattle.machine_code.specs.inner.Marks.{fails_at, misses_at, denies_at, ages_at, Reaches, begins, onward, Passed, start, over, PickedIs, EndedIs, BarredIs, BarsIs, DueIs, LastsIs}
