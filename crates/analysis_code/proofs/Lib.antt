@@ -1,5 +1,4 @@
 -- Laws of the analysis.
-pub mod Filling
 pub mod Ties
 pub mod Reading
 pub mod Subsuming

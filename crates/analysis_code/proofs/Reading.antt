@@ -1,19 +1,20 @@
 -- A row that is written is read back as the run that it holds, and the rows before it as before.
-use Prim.Native.Nat.{ℕ, zero, suc, ◌+◌, ◌*◌, ◌≤◌}
+use Prim.Native.Nat.{ℕ, zero, suc, ◌+◌, ◌*◌, ◌/◌, ◌≤◌}
 use mathlib.Core.Path.{◌≡◌, refl, ap, sym, ◌∙◌}
 use mathlib.Core.Bool.{Bool, true, false, cond, not}
-use mathlib.Core.List.{List, [], ◌∷◌, ◌++◌, append_assoc}
+use mathlib.Core.List.{List, [], ◌∷◌, ◌++◌, append_assoc, append-nil}
 use native.Mathlib.Omega.{arith}
 use lib.ListN.{length, get_or, take, drop, length-append, take-append-drop}
 use lib.Seq.{take_all, take_at, drop_at, drop-drop, length-take-le}
 use lib.Dec.{eqb}
+use Rattle.std.specs.Simd.{first_chunks}
+use Rattle.std.proofs.lemmas.List.{drop-take}
 use Rattle.base.proofs.Masks.{bits_back}
 use Rattle.base.specs.Mask.{mask, bits_of}
 use Rattle.slots.specs.inner.Words.{put}
-use Rattle.slots.proofs.Parts.{drop-put, part-put-before}
+use Rattle.slots.proofs.Parts.{drop-put, part-take, part-put-before}
 use Rattle.analysis.specs.Rows.{NamedRun, subsumed, verdict, none_row, row}
-use Rattle.analysis_code.specs.inner.Starts.{run_in, run_if, runs_in}
-use Rattle.analysis_code.proofs.Filling.{eight-all}
+use Rattle.analysis_code.specs.inner.Starts.{run_in, run_if, runs_of, runs_in}
 
 -- the words where they were written
 part-put : (l : List ℕ) (a : ℕ) (ws : List ℕ) → a ≤ length l → take (length ws) (drop a (put l a ws)) ≡ ws
@@ -88,9 +89,31 @@ pub none-back : run_if none_row ≡ []
 unfolding run_if none_row
 none-back = refl
 
--- the words of a row, one by one
-pub row_words : (w v m : ℕ) (r : NamedRun) → w ≡ v → m ≡ mask r.held → length r.values ≡ 8
-    → w ∷ r.last ∷ r.steps ∷ m ∷ get_or r.values 0 0 ∷ get_or r.values 1 0 ∷ get_or r.values 2 0 ∷ get_or r.values 3 0 ∷ get_or r.values 4 0
-    ∷ get_or r.values 5 0 ∷ get_or r.values 6 0 ∷ get_or r.values 7 0 ∷ [] ≡ row v r
-unfolding row
-row_words w v m r e f h = rw (e, f) (ap (λ t. v ∷ r.last ∷ r.steps ∷ mask r.held ∷ t) (eight-all r.values h))
+-- the rows from the front on, 12 words each, hold the runs of as many rows
+chunks-more : (k : ℕ) (rows : List ℕ) → runs_of (first_chunks 12 (suc k) rows) ≡ runs_of (first_chunks 12 k rows) ++ run_if (take 12 (drop (k * 12) rows))
+unfolding runs_of
+chunks-more zero rows = append-nil (run_if (take 12 rows))
+chunks-more (suc k) rows =
+    let e : 12 + k * 12 ≡ suc k * 12 = omega arith in
+    ap (λ rs. run_if (take 12 rows) ++ rs) (chunks-more k (drop 12 rows) ∙ ap (λ ws. runs_of (first_chunks 12 k (drop 12 rows)) ++ run_if (take 12 ws)) (drop-drop (k * 12) 12 rows ∙ ap (λ i. drop i rows) e))
+    ∙ sym (append_assoc (run_if (take 12 rows)) (runs_of (first_chunks 12 k (drop 12 rows))) (run_if (take 12 (drop (suc k * 12) rows))))
+
+chunks-runs : (k : ℕ) (rows : List ℕ) → runs_of (first_chunks 12 k rows) ≡ runs_in k rows
+unfolding runs_of runs_in
+chunks-runs zero rows = refl
+chunks-runs (suc k) rows = chunks-more k rows ∙ ap (λ rs. rs ++ run_if (take 12 (drop (k * 12) rows))) (chunks-runs k rows)
+
+chunks-front : (k : ℕ) (rows : List ℕ) → first_chunks 12 k (take (k * 12) rows) ≡ first_chunks 12 k rows
+chunks-front zero rows = refl
+chunks-front (suc k) rows =
+    let e : suc k * 12 ≡ 12 + k * 12 = omega arith in
+    let front : take 12 (take (12 + k * 12) rows) ≡ take 12 rows = part-take 0 12 (12 + k * 12) rows (omega arith) in
+    let behind : drop 12 (take (12 + k * 12) rows) ≡ take (k * 12) (drop 12 rows) = drop-take 12 (k * 12) rows in
+    rw (e, front, behind, chunks-front k (drop 12 rows))
+
+-- the words before a start, by 12: as many rows, with the runs that they hold
+pub earlier-runs : (k : ℕ) (rows : List ℕ) (cs : List (List ℕ)) → k * 12 ≤ length rows
+    → cs ≡ first_chunks 12 (length (take (k * 12) rows) / 12) (take (k * 12) rows) → runs_of cs ≡ runs_in k rows
+earlier-runs k rows cs h e =
+    let n : length (take (k * 12) rows) / 12 ≡ k = omega (arith, length-take-le (k * 12) rows h) in
+    ap runs_of (rw n at e ∙ chunks-front k rows) ∙ chunks-runs k rows

@@ -13,48 +13,38 @@ use Rattle.base.specs.Lists.{All}
 use Rattle.formula.specs.Lookup.{is_tied}
 use Rattle.base.proofs.Tests.{and_left, and_right, and-true, both_ways}
 use Rattle.analysis.specs.Rows.{NamedRun, tied_alike}
-use Rattle.analysis_code.specs.inner.Starts.{variables_from, variables, agrees}
-
--- what the tie rule asks of variable v
-abbrev at : ℕ → NamedRun → NamedRun → Bool
-at v a b = agrees true (get_or a.held v false) (get_or a.values v 0) (get_or b.held v false) (get_or b.values v 0)
+use Rattle.analysis_code.specs.inner.Starts.{variables_from, variables, share}
 
 module _ (tied : List Bool) (a b : NamedRun) (v : ℕ) (whole : Bool) (e : whole ≡ tied_alike (variables_from v (drop v tied)) a b) where
-  one_more : (t : Bool) (vs : List ℕ)
-      → tied_alike (cond t (v ∷ vs) vs) a b
-      ≡ (agrees t (get_or a.held v false) (get_or a.values v 0) (get_or b.held v false) (get_or b.values v 0) && tied_alike vs a b)
+  one_more : (t : Bool) (vs : List ℕ) → tied_alike (cond t (v ∷ vs) vs) a b ≡ (cond t (share a b v) true && tied_alike vs a b)
   unfolding tied_alike
   one_more true vs = refl
   one_more false vs = refl
 
   parted : v < length tied
-      → whole ≡ (agrees (get_or tied v false) (get_or a.held v false) (get_or a.values v 0) (get_or b.held v false) (get_or b.values v 0) && tied_alike
-      (variables_from (v + 1) (drop (v + 1) tied)) a b)
+      → whole ≡ (cond (get_or tied v false) (share a b v) true && tied_alike (variables_from (v + 1) (drop (v + 1) tied)) a b)
   unfolding variables_from
   parted h = rw (add-one v) (rw (drop-cons tied v false h) at e ∙ one_more (get_or tied v false) (variables_from (suc v) (drop (suc v) tied)))
 
-  -- the tie rule goes on behind a variable that agrees, and ends at one that does not
-  pub alike_next : v < length tied
-      → agrees (get_or tied v false) (get_or a.held v false) (get_or a.values v 0) (get_or b.held v false) (get_or b.values v 0) ≡ true
-      → whole ≡ tied_alike (variables_from (v + 1) (drop (v + 1) tied)) a b
+  -- the tie rule goes on behind a variable that is not tied or that both share, and ends at another
+  pub alike_next : v < length tied → cond (get_or tied v false) (share a b v) true ≡ true → whole ≡ tied_alike (variables_from (v + 1) (drop (v + 1) tied)) a b
   alike_next h k = rw k at (parted h)
 
-  pub alike-not : v < length tied
-      → agrees (get_or tied v false) (get_or a.held v false) (get_or a.values v 0) (get_or b.held v false) (get_or b.values v 0) ≡ false → whole ≡ false
-  alike-not h k = rw k at (parted h)
+  pub alike-not : v < length tied → get_or tied v false ≡ true → share a b v ≡ false → whole ≡ false
+  alike-not h t k = rw (t, k) at (parted h)
 
   pub alike_all : length tied ≤ v → whole ≡ true
   unfolding variables_from tied_alike
   alike_all h = let d : drop v tied ≡ [] = drop_of_length-le tied h in rw d at e
 
 -- the tie rule holds exactly where every tied variable agrees
-alike-in : (ws : List ℕ) (a b : NamedRun) (v : ℕ) → tied_alike ws a b ≡ true → is_tied v ws ≡ true → at v a b ≡ true
+alike-in : (ws : List ℕ) (a b : NamedRun) (v : ℕ) → tied_alike ws a b ≡ true → is_tied v ws ≡ true → share a b v ≡ true
 unfolding tied_alike is_tied
 alike-in [] a b v e t = let z : ◌≡◌ {A = ℕ} 0 1 = cc in absurd (omega arith)
-alike-in (w ∷ ws) a b v e t = go (eqb w v) refl t (alike-in ws a b v (and_right (at w a b) (tied_alike ws a b) e))
+alike-in (w ∷ ws) a b v e t = go (eqb w v) refl t (alike-in ws a b v (and_right (share a b w) (tied_alike ws a b) e))
   where
-    go : (q : Bool) → eqb w v ≡ q → (q || is_tied v ws) ≡ true → (is_tied v ws ≡ true → at v a b ≡ true) → at v a b ≡ true
-    go true q k f = let s : w ≡ v = eqb-true w v q in rw s at (and_left (at w a b) (tied_alike ws a b) e)
+    go : (q : Bool) → eqb w v ≡ q → (q || is_tied v ws) ≡ true → (is_tied v ws ≡ true → share a b v ≡ true) → share a b v ≡ true
+    go true q k f = let s : w ≡ v = eqb-true w v q in rw s at (and_left (share a b w) (tied_alike ws a b) e)
     go false q k f = f k
 
 tied-first : (w : ℕ) (ws : List ℕ) → is_tied w (w ∷ ws) ≡ true
@@ -69,10 +59,10 @@ tied-behind v w ws e = go (eqb w v)
     go true = refl
     go false = e
 
-alike-out : (ws : List ℕ) (a b : NamedRun) → ((v : ℕ) → is_tied v ws ≡ true → at v a b ≡ true) → tied_alike ws a b ≡ true
+alike-out : (ws : List ℕ) (a b : NamedRun) → ((v : ℕ) → is_tied v ws ≡ true → share a b v ≡ true) → tied_alike ws a b ≡ true
 unfolding tied_alike
 alike-out [] a b f = refl
-alike-out (w ∷ ws) a b f = and-true (at w a b) (tied_alike ws a b) (f w (tied-first w ws)) (alike-out ws a b (λ v h. f v (tied-behind v w ws h)))
+alike-out (w ∷ ws) a b f = and-true (share a b w) (tied_alike ws a b) (f w (tied-first w ws)) (alike-out ws a b (λ v h. f v (tied-behind v w ws h)))
 
 -- a variable is among those of the flags exactly when its flag is set
 pub record Flagged (v k : ℕ) (bs : List Bool) : Type 0 where
@@ -119,7 +109,7 @@ tied-same ws tied h n f a b = both_ways (tied_alike (variables tied) a b) (tied_
     back : tied_alike ws a b ≡ true → tied_alike (variables tied) a b ≡ true
     back e = alike-out (variables tied) a b (λ v t. listed v (flagged-in v 0 tied t))
       where
-        listed : (v : ℕ) → Flagged v 0 tied → at v a b ≡ true
+        listed : (v : ℕ) → Flagged v 0 tied → share a b v ≡ true
         listed v r =
             let q : r.index ≡ v = omega (arith, r.place) in
             let m : v < 8 = omega (arith, r.inside) in

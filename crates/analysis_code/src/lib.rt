@@ -1,19 +1,17 @@
 // The analysis: a row for every event of the log.
 #![tactic(auto)]
 
-ghost use Rattle.std.specs.Prelude.{◌≡◌, cond, ◌+◌, ◌-◌, ◌*◌, ◌≤◌, ltb, length, get_or, take, drop};
-ghost use Rattle.base.specs.Mask.{bits_of};
+ghost use Rattle.std.specs.Prelude.{◌≡◌, cond, ltb, ◌+◌, ◌*◌, ◌≤◌, ◌<◌, length};
+ghost use Rattle.slots.specs.inner.Words.{put};
 ghost use Rattle.search_code.specs.inner.Turn.{stretch_end};
 ghost use Rattle.analysis.specs.Rows.{tied_alike, row, subsumed, verdict};
 ghost use Rattle.analysis.specs.Call.{Analyses};
-ghost use Rattle.analysis_code.specs.inner.Starts.{named_of, variables, agrees, run_in, run_if, runs_in, run_of, row_by, is_refused};
-ghost use Rattle.analysis_code.specs.inner.Starts.{OneStart, AllStarts, CheckedIs};
+ghost use Rattle.analysis_code.specs.inner.Starts.{named_of, said, variables, share, run_if, maybe, runs_of, runs_in, run_of, row_by, AllStarts};
 
-use analysis::Outcome;
 use files_code::FilesReading;
-use refusal::{Acceptance, Refusal};
+use refusal::Refusal;
 use search::{SearchAnswer, Verdict};
-use search_code::Scope;
+use search_code::Files;
 
 // A start's named run, as its row holds it.
 #[derive(Clone, Copy)]
@@ -25,280 +23,200 @@ struct RowRun {
     values: [u32; 8],
 }
 
-// Which variables a mask holds.
-fn held_in(mask: u32) -> [bool; 8]
-    ensures { result ≡ bits_of 8 mask }
-{
-    base::bits_of(mask, 8)
+// What a row says of its run, by the first of its words (numbers, as the definition `verdict` and the C interface have them); a row
+// without a run has 0 there.
+#[derive(Clone, Copy)]
+enum RowVerdict {
+    Alert = 1,
+    Subsumed = 2,
+    Rejected = 3,
 }
 
-// The eight values of a row.
-fn values_in(part: &[u32]) -> [u32; 8]
-    requires { length part.now ≡ 12 }
-    ensures { result ≡ take 8 (drop 4 part.now) }
-{
-    [
-        part[4], part[5], part[6], part[7], part[8], part[9], part[10], part[11],
-    ]
+// The rows of the starts before one, and which variables are tied.
+#[derive(Clone, Copy)]
+struct Earlier<'a> {
+    rows: &'a [[u32; 12]],
+    tied: &'a [bool; 8],
 }
 
-// The run that a row holds.
-fn run_in(part: &[u32]) -> RowRun
-    requires { length part.now ≡ 12 }
-    ensures { named_of result ≡ run_in part.now }
-{
-    let held = held_in(part[3]);
-    let values = values_in(part);
-    RowRun {
-        accepts: part[0] != 3,
-        last: part[1],
-        steps: part[2],
-        held,
-        values,
+impl RowRun {
+    // The run that a row holds, if it holds one.
+    fn in_row(row: &[u32; 12]) -> Option<RowRun>
+        ensures { maybe result ≡ run_if row.now }
+    {
+        if row[0] == 0 {
+            return None;
+        }
+        let mut values = [0; 8];
+        values.copy_from_slice(&row[4..12]);
+        Some(RowRun {
+            accepts: row[0] != RowVerdict::Rejected as u32,
+            last: row[1],
+            steps: row[2],
+            held: base::bits_of(row[3], 8),
+            values,
+        })
     }
-}
 
-// Whether a variable, if it is tied, is held by both runs with one value.
-fn agree(tied: bool, a: bool, x: u32, b: bool, y: u32) -> bool
-    ensures { result ≡ agrees tied a x b y }
-{
-    if tied {
-        return base::both(a, base::both(b, x == y));
+    // The run that a search answers.
+    fn of(answer: &SearchAnswer) -> RowRun
+        ensures { named_of result ≡ run_of answer.now }
+    {
+        let steps = answer.steps.min(32);
+        let held = answer.held;
+        let values = answer.values;
+        RowRun {
+            accepts: answer.verdict == Verdict::Accept,
+            last: base::get_or(&answer.events, steps.saturating_sub(1), 0),
+            steps: steps as u32,
+            held,
+            values,
+        }
     }
-    true
+
+    // Whether both runs hold a variable, with one value.
+    fn shares(&self, other: &RowRun, v: usize) -> bool
+        requires { v < 8 }
+        ensures { result ≡ share (named_of self.now) (named_of other.now) v }
+    {
+        self.held[v] && other.held[v] && self.values[v] == other.values[v]
+    }
 }
 
 // The tie rule: whether two runs have the same tied values.
-fn tied_alike(tied: [bool; 8], a: RowRun, b: RowRun) -> bool
-    ensures { result ≡ tied_alike (variables tied) (named_of a) (named_of b) }
+fn tied_alike(tied: &[bool; 8], a: &RowRun, b: &RowRun) -> bool
+    ensures { result ≡ tied_alike (variables tied.now) (named_of a.now) (named_of b.now) }
 {
-    let mut v: usize = 0;
-    while v < 8 {
-        if agree(tied[v], a.held[v], a.values[v], b.held[v], b.values[v]) {
-            v += 1;
-        } else {
+    for v in 0..8 {
+        if tied[v] && !a.shares(b, v) {
             return false;
         }
     }
     true
 }
 
-// Whether the run of an earlier row subsumes this one.
-fn subsumes(part: &[u32], tied: [bool; 8], start: usize, this: RowRun) -> bool
-    requires { length part.now ≡ 12 }
-    ensures { result ≡ subsumed (variables tied) start (named_of this) (run_if part.now) }
-{
-    if part[0] == 0 {
-        return false;
+impl Earlier<'_> {
+    // Whether the run of an earlier row subsumes this one.
+    fn subsumes(&self, row: &[u32; 12], run: &RowRun) -> bool
+        ensures { result ≡ subsumed (variables self.now.tied.now) (length self.now.rows.now) (named_of run.now) (run_if row.now) }
+    {
+        let Some(earlier) = RowRun::in_row(row) else {
+            return false;
+        };
+        self.rows.len() <= earlier.last as usize && tied_alike(self.tied, &earlier, run)
     }
-    let earlier = run_in(part);
-    let last = earlier.last as usize;
-    if last < start {
-        return false;
-    }
-    tied_alike(tied, earlier, this)
-}
 
-// Whether the run of one of the rows before a start subsumes this one.
-fn is_subsumed(rows: &[u32], tied: [bool; 8], start: usize, this: RowRun) -> bool
-    requires { start * 12 ≤ length rows.now }
-    ensures { result ≡ subsumed (variables tied) start (named_of this) (runs_in start rows.now) }
-{
-    let mut k: usize = 0;
-    while k < start {
-        let a = k * 12;
-        let e = a + 12;
-        if subsumes(&rows[a..e], tied, start, this) {
-            return true;
+    // What is said of a start's run.
+    fn verdict(&self, run: &RowRun) -> RowVerdict
+        ensures { said result ≡ verdict (variables self.now.tied.now) (length self.now.rows.now) (named_of run.now) (runs_of self.now.rows.now) }
+    {
+        if !run.accepts {
+            RowVerdict::Rejected
+        } else if self.rows.iter().any(|row| self.subsumes(row, run)) {
+            RowVerdict::Subsumed
+        } else {
+            RowVerdict::Alert
         }
-        k += 1;
     }
-    false
-}
 
-// The verdict on a start's run: 1 alert, 2 subsumed, 3 rejected.
-fn verdict_of(rows: &[u32], tied: [bool; 8], start: usize, this: RowRun) -> u32
-    requires { start * 12 ≤ length rows.now }
-    ensures { result ≡ verdict (variables tied) start (named_of this) (runs_in start rows.now) }
-{
-    if !this.accepts {
-        return 3;
+    // The row of a start's run.
+    fn row_of(&self, run: &RowRun) -> [u32; 12]
+        ensures { result ≡ row (verdict (variables self.now.tied.now) (length self.now.rows.now) (named_of run.now) (runs_of self.now.rows.now)) (named_of run.now) }
+    {
+        let mut row = [0; 12];
+        row[0] = self.verdict(run) as u32;
+        row[1] = run.last;
+        row[2] = run.steps;
+        row[3] = base::mask_of(run.held);
+        row[4..12].copy_from_slice(&run.values);
+        row
     }
-    if is_subsumed(rows, tied, start, this) {
-        return 2;
-    }
-    1
-}
 
-// The row of a start's run.
-fn row_of(rows: &[u32], tied: [bool; 8], start: usize, this: RowRun) -> [u32; 12]
-    requires { start * 12 ≤ length rows.now }
-    ensures { result ≡ row (verdict (variables tied) start (named_of this) (runs_in start rows.now)) (named_of this) }
-{
-    let verdict = verdict_of(rows, tied, start, this);
-    let held = this.held;
-    let bits = base::mask_of(held);
-    let x = this.values;
-    [
-        verdict, this.last, this.steps, bits, x[0], x[1], x[2], x[3], x[4], x[5], x[6], x[7],
-    ]
-}
-
-// The last of so many events.
-fn last_of(events: [u32; 32], steps: usize) -> u32
-    requires { steps ≤ 32 }
-    ensures { result ≡ get_or events (steps - 1) 0 }
-{
-    if steps == 0 {
-        return events[0];
-    }
-    events[steps - 1]
-}
-
-// The run that a search answers.
-fn run_of(a: SearchAnswer, accepts: bool) -> RowRun
-    ensures { named_of result ≡ run_of a accepts }
-{
-    let steps = base::lower(a.steps, 32);
-    let events = a.events;
-    let last = last_of(events, steps);
-    let held = a.held;
-    let values = a.values;
-    RowRun {
-        accepts,
-        last,
-        steps: steps as u32,
-        held,
-        values,
+    // The row of a search's answer.
+    fn row(&self, answer: &SearchAnswer) -> [u32; 12]
+        ensures { result ≡ row_by (variables self.now.tied.now) (length self.now.rows.now) (runs_of self.now.rows.now) answer.now answer.now.verdict }
+    {
+        match answer.verdict {
+            Verdict::Absent => [0; 12],
+            Verdict::Accept | Verdict::Reject => self.row_of(&RowRun::of(answer)),
+        }
     }
 }
 
-// The row of a search's answer.
-fn words_of(rows: &[u32], tied: [bool; 8], start: usize, answer: SearchAnswer) -> [u32; 12]
-    requires { start * 12 ≤ length rows.now }
-    ensures { result ≡ row_by (variables tied) start (runs_in start rows.now) answer answer.verdict }
-{
-    let verdict = answer.verdict;
-    match verdict {
-        Verdict::Refused(_why) => [0u32; 12],
-        Verdict::Absent => [0u32; 12],
-        Verdict::Accept => row_of(rows, tied, start, run_of(answer, true)),
-        Verdict::Reject => row_of(rows, tied, start, run_of(answer, false)),
-    }
-}
-
-// Writes the words of a row.
-fn write_row(part: &mut [u32], words: [u32; 12])
-    requires { length part.old ≡ 12 }
-    ensures { part.new ≡ words }
-{
-    let mut i: usize = 0;
-    while i < 12 {
-        part[i] = words[i];
-        i += 1;
-    }
-}
-
-// Whether a search is refused.
-fn is_refused(answer: SearchAnswer) -> bool
-    ensures { result ≡ is_refused answer.verdict }
-{
-    let verdict = answer.verdict;
-    match verdict {
-        Verdict::Refused(_why) => true,
-        Verdict::Absent => false,
-        Verdict::Accept => false,
-        Verdict::Reject => false,
-    }
-}
-
-// One start over rows already written: its row, by its search's answer; false where it is crowded.
-fn one_start(rows: &mut [u32], tied: [bool; 8], start: usize, answer: SearchAnswer) -> bool
+// Writes a start's row behind those of the starts before it, by its search's answer.
+fn write_row(rows: &mut [u32], tied: &[bool; 8], start: usize, answer: &SearchAnswer)
     requires { start * 12 + 12 ≤ length rows.old }
-    ensures { OneStart tied start answer rows.old rows.new result }
+    ensures { rows.new ≡ put rows.old (start * 12) (row_by (variables tied.now) start (runs_in start rows.old) answer.now answer.now.verdict) }
 {
-    if is_refused(answer) {
-        return false;
+    let at = start * 12;
+    let (earlier, _) = rows[..at].as_chunks();
+    let row = Earlier {
+        rows: earlier,
+        tied,
     }
-    let words = words_of(&rows[..], tied, start, answer);
-    let a = start * 12;
-    let e = a + 12;
-    write_row(&mut rows[a..e], words);
-    true
+    .row(answer);
+    // By the place of its words: of a slice lent as chunks to be written the library does not say what it ends as.
+    rows[at..at + 12].copy_from_slice(&row);
 }
 
 // Where a start's stretch ends, from the end of the stretch before it or its own: another only where that one is over.
-fn end_at(l: &[u8], places: &[usize; 1024], scope: Scope, start: usize, end: usize) -> usize
-    requires { (start ≤ scope.events) × (scope.events ≤ 1024) × (length places.now ≡ 1024) × (end ≤ scope.events) }
-    ensures { (result ≡ cond (ltb start end) end (stretch_end l.now places.now scope start)) × (result ≤ scope.events) }
+fn end_at(files: &Files<'_>, start: usize, end: usize) -> usize
+    requires { (start ≤ files.now.scope.events) × (end ≤ files.now.scope.events) × (files.now.scope.events ≤ 1024) }
+    ensures { (result ≡ cond (ltb start end) end (stretch_end files.now.log.now files.now.places.now files.now.scope start)) × (result ≤ files.now.scope.events) }
 {
     if start < end {
-        return end;
+        end
+    } else {
+        files.stretch_end(start)
     }
-    search_code::stretch_end(l, places, scope, start)
 }
 
 // Every start in order, up to one that is crowded; the last present values and the stretch's end are carried from start to start.
 fn all_starts(
-    l: &[u8],
-    places: &[usize; 1024],
-    f: &[u8],
-    table: &[usize; 128],
-    scope: Scope,
-    tied: [bool; 8],
+    files: &Files<'_>,
+    tied: &[bool; 8],
     work: &mut [u32],
     rows: &mut [u32],
-) -> Outcome
-    requires { (scope.slots * 192 ≤ length work.old) × (1 ≤ scope.slots) × (scope.events ≤ 1024) × (12 * scope.events ≤ length rows.old) × (length places.now ≡ 1024) }
-    ensures { AllStarts l.now places.now f.now table.now scope tied rows.old rows.new result }
+) -> Result<(), Refusal>
+    requires { (files.now.scope.slots * 192 ≤ length work.old) × (1 ≤ files.now.scope.slots) × (12 * files.now.scope.events ≤ length rows.old) × (files.now.scope.events ≤ 1024) }
+    ensures { AllStarts files.now.log.now files.now.places.now files.now.formula.now files.now.steps.now files.now.scope tied.now rows.old rows.new result }
 {
     let mut seen = event_log_code::none_seen();
-    let mut end: usize = 0;
-    let mut start: usize = 0;
-    while start < scope.events {
-        end = end_at(l, places, scope, start, end);
-        let answer = search_code::search_from(l, places, f, table, scope, start, end, seen, work);
-        if one_start(rows, tied, start, answer) {
-            seen = search_code::seen_after(l, places, scope, start, seen);
-            start += 1;
-        } else {
-            return Outcome::Refused(Refusal::Crowded { place: start });
-        }
+    let mut end = 0;
+    for start in 0..files.scope.events {
+        end = end_at(files, start, end);
+        let Ok(answer) = files.search_from(start, end, seen, work) else {
+            return Err(Refusal::Crowded { place: start });
+        };
+        write_row(rows, tied, start, &answer);
+        seen = files.seen_after(start, seen);
     }
-    Outcome::Done
+    Ok(())
 }
 
-// A call whose files are accepted: the lent words are checked, then every start is searched.
-fn checked(l: &[u8], f: &[u8], files: FilesReading, work: &mut [u32], rows: &mut [u32]) -> Outcome
-    requires { files.log.events ≤ 1024 }
-    ensures { CheckedIs l.now f.now files work.old work.new rows.old rows.new result }
-{
-    if work.len() < 192 {
-        return Outcome::Refused(Refusal::Short { needed: 192 });
-    }
-    let log = files.log;
-    let needed = 12 * log.events;
-    if rows.len() < needed {
-        return Outcome::Refused(Refusal::Short { needed });
-    }
-    let formula = files.formula;
-    let places = log.places;
-    let table = formula.table;
-    let tied = held_in(formula.tied);
-    let lasting = search_code::lasting_of(f, log, formula);
-    let slots = search_code::slots_of(work.len());
-    let scope = search_code::scope_of(log, formula, lasting, slots);
-    all_starts(l, &places, f, &table, scope, tied, work, rows)
-}
-
-// Analyses a log by a formula: a row for every event, exactly as the definition gives them.
-pub fn analyse(l: &[u8], f: &[u8], work: &mut [u32], rows: &mut [u32]) -> Outcome
+// Analyses a log by a formula: a row for every event, exactly as the definition gives them. Once both files are accepted, the lent
+// words are checked, then every start is searched.
+pub fn analyse(l: &[u8], f: &[u8], work: &mut [u32], rows: &mut [u32]) -> Result<(), Refusal>
     ensures { Analyses l.now f.now work.old work.new rows.old rows.new result }
 {
-    let files = files_code::read_files(l, f);
-    let acceptance = files.acceptance;
-    match acceptance {
-        Acceptance::Refused(why) => Outcome::Refused(why),
-        Acceptance::Accepted => checked(l, f, files, work, rows),
+    let FilesReading { log, formula } = files_code::read_files(l, f)?;
+    let words = work.len();
+    if words < 192 {
+        return Err(Refusal::Short { needed: 192 });
     }
+    let needed = 12 * log.events;
+    if rows.len() < needed {
+        return Err(Refusal::Short { needed });
+    }
+    let tied = base::bits_of(formula.tied, 8);
+    let lasting = search_code::lasting_of(f, &log, &formula);
+    let slots = search_code::slots_of(words);
+    let files = Files {
+        log: l,
+        places: &log.places,
+        formula: f,
+        steps: &formula.table,
+        scope: search_code::scope_of(&log, &formula, lasting, slots),
+    };
+    all_starts(&files, &tied, work, rows)
 }

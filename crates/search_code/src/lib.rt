@@ -44,7 +44,6 @@ pub struct Files<'a> {
     pub formula: &'a [u8],
     pub steps: &'a [usize; 128],
     pub scope: Scope,
-    ghost few: { scope.events ≤ 1024 },
 }
 
 // The waiting list before the first event: the start configuration, in slot 0.
@@ -161,7 +160,7 @@ impl<'a> Files<'a> {
 
     // Where the stretch of a start ends: behind the first event that a clock mark follows.
     pub fn stretch_end(&self, start: usize) -> usize
-        requires { start ≤ self.now.scope.events }
+        requires { (start ≤ self.now.scope.events) × (self.now.scope.events ≤ 1024) }
         ensures { (result ≡ stretch_end self.now.log.now self.now.places.now self.now.scope start) × (result ≤ self.now.scope.events) }
     {
         for n in start..self.scope.events {

@@ -1,25 +1,24 @@
--- `analysis_code::write_row` meets its contract: after i turns the first i words are written.
-use lib.ListN.{length-set, length}
-use Rattle.analysis_code.proofs.Filling.{copy-next, copy_done}
-use native.Mathlib.Omega.{arith}
-use mathlib.Core.Path.{◌≡◌, refl, sym, ◌∙◌}
-use borrow.Author.Rules.{rules}
+-- `analysis_code::write_row` meets its contract: the row is that of the rows before it, and stands where the start has its own.
+use Rattle.std.proofs.Common.{◌≡◌, ◌+◌, ◌-◌, ◌*◌, ◌≤◌, ◌∙◌, sym, ap, length, arith, rules}
+use lib.Seq.{length-take-le}
+use Rattle.slots.specs.inner.Words.{put}
+use Rattle.slots.proofs.Parts.{mid-put}
+use Rattle.analysis_code.specs.inner.Starts.{variables, row_by, runs_of}
+use Rattle.analysis_code.proofs.Reading.{earlier-runs}
 use Rattle.analysis_code.proofs.write_row.Goals as goal
-
-pub loop-i-init : goal.loop-i-init
-loop-i-init c = (omega arith, c.requires, refl)
-
-pub loop-i-preserved : goal.loop-i-preserved
-loop-i-preserved c =
-    let i = c.loop-i in
-    let h : length c.args.words ≡ 12 = search rules in
-    (omega arith, simp length-set i.invariant.1, copy-next c.args.words i.part i.i (i.invariant.1 ∙ sym h) (omega arith) i.invariant.2)
-
-pub shape_of-part : goal.shape_of-part
-shape_of-part c = c.loop-i.invariant.1 ∙ sym c.requires
 
 pub returns : goal.returns
 returns c =
-    let i = c.loop-i in
-    let h : length c.args.words ≡ 12 = search rules in
-    copy_done c.args.words i.part i.i (i.invariant.1 ∙ sym h) (omega arith) i.invariant.2
+    let a = c.args in
+    let rows = a.rows.now in
+    let at = a.start * 12 in
+    let answer = a.answer.now in
+    let h : at ≤ length rows = omega arith in
+    let n : length c.row-row.result ≡ 12 = search rules in
+    let m : at + 12 - at ≡ 12 = omega arith in
+    let k : length c.as_chunks.result.0.now ≡ a.start = omega (arith, c.as_chunks.ensures.front_len, length-take-le at rows h) in
+    let r = earlier-runs a.start rows _ h c.as_chunks.ensures.front in
+    mid-put at (at + 12 - at) rows _ c.row-row.result c.copy_from_slice.ensures.after (n ∙ sym m)
+    ∙ ap (put rows at)
+    (c.row-row.ensures ∙ ap (λ n. row_by (variables a.tied.now) n (runs_of c.as_chunks.result.0.now) answer answer.verdict) k
+    ∙ ap (λ rs. row_by (variables a.tied.now) a.start rs answer answer.verdict) r)
