@@ -7,6 +7,9 @@ use mathlib.Core.Option.{Option, none, some}
 use native.Mathlib.Omega.{arith}
 use Rattle.std.specs.Prelude.{Option as Maybe, Some, None}
 use lib.Dec.{ltb}
+use borrow.Author.Tests.{ltb-true, ltb-false, lt-ltb}
+use Rattle.base.specs.Lists.{some_below}
+use Rattle.base.proofs.Tests.{cond-holds}
 use Rattle.event_log.specs.Log.{Log}
 use Rattle.formula.specs.Formula.{Formula}
 use Rattle.runs.specs.inner.Lists.{keep}
@@ -68,6 +71,14 @@ module _ (g : Log) (fm : Formula) (t : Thread) (n : ℕ) where
       go before j b =
           below_next (λ z. fire_at g fm (conf g fm t) n z ≡ none) k before (here before (fire_at g fm (conf g fm t) n k) refl) j (omega (arith, b))
 
+  -- the lowest of the steps that end no run is the lowest of all
+  pub lowest-open : committed fm (conf g fm t) ≡ true → NoEnding g fm t n → (k : ℕ) → k ≤ 8
+      → ((j : ℕ) → j < k → (d : Config) → fire_at g fm (conf g fm t) n j ≡ some d → final fm d ≡ true) → (k < 8 → Fires g fm (conf g fm t) n k)
+      → Lowest g fm (conf g fm t) n (some_below 8 k)
+  lowest-open e o k l h f =
+      cond-holds (Lowest g fm (conf g fm t) n) (ltb k 8) (Some k) None (λ b. (quiet-before e o k l h, f (ltb-true k 8 b)))
+      (λ b j m. quiet-before e o k l h j (omega (arith, ltb-false k 8 b, m)))
+
   -- ---- what may be taken
 
   module _ (h : Fit g fm t) where
@@ -110,8 +121,9 @@ module _ (g : Log) (fm : Formula) (t : Thread) (n : ℕ) where
           stays_is = sym (leaves (machine g fm) n (thread g fm t) k x.left e l x.is low.0);
         }
 
--- in a committed state, where no move ends a run, the lowest of the steps that end no run is the lowest of all
-pub lowest-open : (s : Scene) (t : Thread) (r : Maybe ℕ) → FirstTakenIs s t false r → LowestByIs s t true r
-lowest-open s t None x g fm stands w e o = quiet-before g fm t s.moment.number e (o refl) 8 (omega arith) (x g fm stands w)
-lowest-open s t (Some k) x g fm stands w e o =
-    (quiet-before g fm t s.moment.number e (o refl) k (omega (arith, x.0)) (x.1 g fm stands w), x.2 g fm stands w)
+-- what the code finds among the steps that end no run is the lowest of all
+pub open-lowest : (s : Scene) (t : Thread) (r : Maybe ℕ) → FirstTakenIs s t false r → LowestByIs s t true r
+open-lowest s t None x g fm stands w e o = lowest-open g fm t s.moment.number e (o refl) 8 (omega arith) (x g fm stands w) (λ b. absurd (omega (arith, b)))
+open-lowest s t (Some k) x g fm stands w e o =
+    let low = lowest-open g fm t s.moment.number e (o refl) k (omega (arith, x.0)) (x.1 g fm stands w) (λ b. x.2 g fm stands w) in
+    rw (lt-ltb k 8 x.0) at low

@@ -32,7 +32,7 @@ impl Scene<'_> {
     }
 
     // Which of an event's values are new to the lists of a thread: every one where nothing was gathered.
-    pub fn fresh_at(&self, t: &Thread, values: &[u32; 8]) -> [bool; 32]
+    pub(crate) fn fresh_at(&self, t: &Thread, values: &[u32; 8]) -> [bool; 32]
         ensures { FreshIs self.now t.now values.now result }
     {
         if is_empty(&t.config.tallies) {
@@ -49,7 +49,7 @@ impl Scene<'_> {
     }
 
     // Whether two threads whose words hold the same have gathered the same lists: so it is where neither has gathered.
-    pub fn same_lists(&self, a: &Thread, b: &Thread) -> bool
+    pub(crate) fn same_lists(&self, a: &Thread, b: &Thread) -> bool
         ensures { SameListsIs self.now a.now b.now result }
     {
         if is_empty(&a.config.tallies) && is_empty(&b.config.tallies) {

@@ -24,7 +24,7 @@ impl Scene<'_> {
 
     // Inserts a thread into a list: where a thread stands for the same configuration the lesser trail is kept, else it is appended.
     // The count of the list then, none where there is no room: every word stays.
-    pub fn insert(&self, work: &mut [u32], seats: Seats, b: &Thread) -> Option<usize>
+    pub(crate) fn insert(&self, work: &mut [u32], seats: Seats, b: &Thread) -> Option<usize>
         requires { Seated seats work.old }
         ensures { InsertIs self.now seats b.now work.old work.new result }
     {

@@ -8,7 +8,7 @@ use slots::Thread;
 
 impl Scene<'_> {
     // Whether step k of a state leads to a state that accepts or rejects: such a step ends runs and leaves nothing to wait.
-    pub fn ends_by(&self, state: u32, k: u32) -> bool
+    pub(crate) fn ends_by(&self, state: u32, k: u32) -> bool
         ensures { EndsIs self.now state k result }
     {
         let at = step_offset(self.table, state, k as usize);
@@ -17,7 +17,7 @@ impl Scene<'_> {
 
     // Whether step k of a state may end runs on the event, or, with `ends` false, may leave what waits, as far as its target, the event's
     // table and the variables that a thread holds tell. For speed alone: one that says so of every step in the table would meet the contract.
-    pub fn may(&self, state: u32, held: &[bool; 8], prior: &[u32; 8], k: u32, ends: bool) -> bool
+    pub(crate) fn may(&self, state: u32, held: &[bool; 8], prior: &[u32; 8], k: u32, ends: bool) -> bool
         ensures { MayIs self.now state held.now prior.now k ends result }
     {
         let at = step_offset(self.table, state, k as usize);
@@ -33,7 +33,7 @@ impl Scene<'_> {
     }
 
     // Whether some step of a state may end runs on the event.
-    pub fn can_end(&self, state: u32, held: &[bool; 8], prior: &[u32; 8]) -> bool
+    pub(crate) fn can_end(&self, state: u32, held: &[bool; 8], prior: &[u32; 8]) -> bool
         ensures { CanEndIs self.now state held.now prior.now result }
     {
         for k in 0..8 {
@@ -46,7 +46,7 @@ impl Scene<'_> {
 
     // The number of the lowest numbered step of a thread's state that fires on the event and ends a run, or, with `ends` false, that fires
     // and ends none. `ends` stays a test: it is compared with what a step does and selects no code.
-    pub fn first_taken(&self, t: &Thread, ends: bool) -> Option<u32>
+    pub(crate) fn first_taken(&self, t: &Thread, ends: bool) -> Option<u32>
         ensures { FirstTakenIs self.now t.now ends result }
     {
         let config = &t.config;
@@ -64,7 +64,7 @@ impl Scene<'_> {
     }
 
     // Step k of a thread's state on the event: the thread in the configuration that it leaves, its trail as before, if it fires.
-    pub fn fires_at(&self, t: &Thread, k: u32) -> Option<Thread>
+    pub(crate) fn fires_at(&self, t: &Thread, k: u32) -> Option<Thread>
         ensures { FiresIs self.now t.now k result }
     {
         let at = step_offset(self.table, t.config.state, k as usize);
@@ -77,7 +77,7 @@ impl Scene<'_> {
     }
 
     // The number of the lowest numbered step of a thread's state that fires on the event.
-    pub fn lowest_at(&self, t: &Thread) -> Option<u32>
+    pub(crate) fn lowest_at(&self, t: &Thread) -> Option<u32>
         ensures { LowestIs self.now t.now result }
     {
         let fresh = self.fresh_at(t, &self.moment.event.values);
@@ -86,7 +86,7 @@ impl Scene<'_> {
     }
 
     // Whether some step of a thread's state is not expired after the event.
-    pub fn hopeful_at(&self, t: &Thread) -> bool
+    pub(crate) fn hopeful_at(&self, t: &Thread) -> bool
         ensures { HopefulIs self.now t.now result }
     {
         if self.table.len() < 128 {

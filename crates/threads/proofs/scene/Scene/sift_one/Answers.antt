@@ -3,7 +3,7 @@ use Prim.Native.Nat.{◌≤◌}
 use mathlib.Core.Path.{refl, ◌∙◌, sym}
 use mathlib.Core.Bool.{true, false}
 use native.Mathlib.Omega.{arith}
-use Rattle.threads.proofs.Choices.{lowest-open}
+use Rattle.threads.proofs.Choices.{open-lowest}
 use Rattle.threads.proofs.Taking.{taken-number}
 use Rattle.threads.proofs.Sifting.{sifts-next, sifting-next, sifting-stopped, idle-sifts, idle-sifting}
 use Rattle.threads.proofs.Listed.{kept_at, thread-stays, ends-none}
@@ -46,7 +46,7 @@ returns-in_err-moved c =
           let e = c.load_slot-t.ensures ∙ s.behind a.j (omega arith) p.3 in
           let go = kept_at g fm z.half z.count before a.j t kept p.3 e in
           sifting-stopped g fm n z before a.j a.done a.work.now v t p.3 e c.choice_of-choice.result
-          (c.choice_of-choice.ensures.1 true (lowest-open a.self.now t) g fm stands go.fit (λ o. ends-none g fm z.half z.count before a.j t p.3 e n quiet)) x.new.work
+          (c.choice_of-choice.ensures.1 true (open-lowest a.self.now t) g fm stands go.fit (λ o. ends-none g fm z.half z.count before a.j t p.3 e n quiet)) x.new.work
           (y.1 g fm stands v.moved_kept go),
     )
 
@@ -81,6 +81,6 @@ returns c =
           let e = c.load_slot-t.ensures ∙ s.behind a.j (omega arith) p.3 in
           let go = kept_at g fm z.half z.count before a.j t kept p.3 e in
           sifting-next g fm n z before a.j a.done a.work.now v t p.3 e c.choice_of-choice.result
-          (c.choice_of-choice.ensures.1 true (lowest-open a.self.now t) g fm stands go.fit (λ q. ends-none g fm z.half z.count before a.j t p.3 e n quiet)) x.new.work y.new.work r
+          (c.choice_of-choice.ensures.1 true (open-lowest a.self.now t) g fm stands go.fit (λ q. ends-none g fm z.half z.count before a.j t p.3 e n quiet)) x.new.work y.new.work r
           y.result p.0.1 (omega (arith, p.0.2, p.1, p.3)) go o.0 (o.1 g fm stands v.moved_kept go) y.ensures.0 (y.ensures.1 g fm stands go),
     )
