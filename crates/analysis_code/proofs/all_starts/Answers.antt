@@ -31,7 +31,7 @@ loop-start-preserved c =
     let end = c.end_at-end.result in
     let told : Told s.log.now s.places.now s.scope i.start end i.seen =
     record { there = h; end_is = end-here i.start i.end end _ i.invariant.end_is c.end_at-end.ensures.0; seen_is = i.invariant.seen_is } in
-    let k : i.start * 12 + 12 ≤ length i.rows = omega (arith, c.requires.2.0, i.invariant.rows_long, h) in
+    let k : i.start * 12 + 12 ≤ length i.rows = omega (arith, c.requires.2, i.invariant.rows_long, h) in
     record {
       work_long = search rules;
       rows_long = search rules;
