@@ -17,7 +17,14 @@ impl Scene<'_> {
 
     // Whether step k of a state may end runs on the event, or, with `ends` false, may leave what waits, as far as its target, the event's
     // table and the variables that a thread holds tell. For speed alone: one that says so of every step in the table would meet the contract.
-    pub(crate) fn may(&self, state: u32, held: &[bool; 8], prior: &[u32; 8], k: u32, ends: bool) -> bool
+    pub(crate) fn may(
+        &self,
+        state: u32,
+        held: &[bool; 8],
+        prior: &[u32; 8],
+        k: u32,
+        ends: bool,
+    ) -> bool
         ensures { MayIs self.now state held.now prior.now k ends result }
     {
         let at = step_offset(self.table, state, k as usize);
