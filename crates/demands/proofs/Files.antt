@@ -176,7 +176,7 @@ module _ (f : List ℕ) (fields : ℕ) (r : Result FormulaReading Refusal) (read
 
 -- The table has for every state and step number the offset of that STEP or that there is none.
 pub formula-steps : (f : List ℕ) (fields : ℕ) (r : Result FormulaReading Refusal) → FormulaAnswer.ReadsFormula f fields r → StepsOfFormula f fields r
-unfolding FormulaAnswer.answer_of
+unfolding FormulaAnswer.answer_of FormulaAnswer.reading_of
 formula-steps f fields r reads =
     let answer : (g : Formula) → IsFormula fields f g → r ≡ Ok (FormulaAnswer.reading_of g) = formula-answer f fields r reads in
     record {
@@ -193,6 +193,7 @@ formula-steps f fields r reads =
 pub formula-steps-only : (f : List ℕ) (fields : ℕ) (r : Result FormulaReading Refusal) → FormulaAnswer.ReadsFormula f fields r → (fm : Formula)
     → IsFormula fields f fm → (table : List ℕ) → length table ≡ 128
     → ((s k : ℕ) → s < 16 → k < 8 → Located fm s k (get_or table (s * 8 + k) 0)) → IsOkAnd r (λ a. table ≡ a.table)
+unfolding FormulaAnswer.reading_of
 formula-steps-only f fields r reads fm is table n says =
     let there = (FormulaAnswer.reading_of fm).table in
     rw (formula-answer f fields r reads fm is) (ext_get_or 0 table there (n ∙ sym (table-length fm)) (λ i h.
@@ -205,6 +206,7 @@ formula-steps-only f fields r reads fm is table n says =
 -- A formula is accepted exactly when it is the encoding of a correct one, and read as that one.
 pub formula-second : (f : List ℕ) (fields : ℕ) (r : Result FormulaReading Refusal) → Bytes f → FormulaAnswer.ReadsFormula f fields r
     → SecondOfFormula f fields r
+unfolding FormulaAnswer.reading_of
 formula-second f fields r bytes reads =
     let answer : (g : Formula) → IsFormula fields f g → r ≡ Ok (FormulaAnswer.reading_of g) = formula-answer f fields r reads in
     record {
