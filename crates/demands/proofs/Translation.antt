@@ -21,12 +21,13 @@ use Rattle.machine.specs.Machine.{machine, accepting}
 use Rattle.search.specs.declared.Verdict.TheVariants as SearchIs
 use Rattle.refusal.specs.declared.Refusal.{Refusal}
 use Rattle.search.specs.declared.SearchAnswer.{SearchAnswer}
-use Rattle.search.specs.Search.{slots_of, Says, tells}
+use Rattle.search.specs.Search.{slots_of}
 use Rattle.search.specs.inner.Demand as Search
 use Rattle.search.proofs.Premises.{Accepted, accepted-premises}
 use Rattle.search.proofs.Demand.{met, third-demand}
 use Rattle.analysis.specs.inner.Demand as ByRuns
 use Rattle.analysis.proofs.Last.{last-is}
+use Rattle.demands.specs.Demands.{Says, tells}
 use Rattle.demands.specs.Demands as Page
 
 -- what holds of an answer holds of what it tells

@@ -28,9 +28,10 @@ use Rattle.runs.specs.Waiting.{Count}
 use Rattle.runs.specs.Demand as Runs
 use Rattle.machine.specs.Configuration.{Config}
 use Rattle.machine.specs.Machine.{machine, accepting}
+use Rattle.search.specs.declared.Verdict.{Verdict}
 use Rattle.search.specs.declared.Verdict.TheVariants as SearchIs
 use Rattle.search.specs.declared.SearchAnswer.{SearchAnswer}
-use Rattle.search.specs.Search.{without, refusal, Says, tells, search_answer}
+use Rattle.search.specs.Search.{without, refusal, search_answer}
 use Rattle.search.specs.Call.{Searched}
 use Rattle.analysis.specs.Call.{Analyses, row_at}
 use Rattle.exports.specs.declared.Refused.{Refused}
@@ -177,6 +178,15 @@ pub record StepsOfFormula (f : List ℕ) (fields : ℕ) (r : Result FormulaReadi
 pub record SecondOfSearch (start : ℕ) (r : SearchAnswer) : Type 0 where
   pub begins : 0 < r.steps → get_or r.events 0 0 ≡ start
   pub rise : (k : ℕ) → suc k < r.steps → get_or r.events k 0 < get_or r.events (suc k) 0
+
+-- the search's answer is not refused, and none, accept or reject
+abbrev pub Says : Result SearchAnswer Refusal → Verdict → Type 0
+Says s v = IsOkAnd s (λ a. a.verdict ≡ v)
+
+-- what it tells beside that; a refusal tells nothing
+abbrev pub tells : Result SearchAnswer Refusal → SearchAnswer
+tells (Ok a) = a
+tells (Err why) = without 0
 
 -- the search's answer is 'crowded'
 pub record SaysCrowded (s : Result SearchAnswer Refusal) : Type 0 where

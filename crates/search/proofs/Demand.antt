@@ -25,7 +25,7 @@ use Rattle.machine.specs.Machine.{machine, accepting}
 use Rattle.machine.proofs.Machine.{Premises, laws}
 use Rattle.search.specs.declared.Verdict.TheVariants.{Absent, Accept, Reject}
 use Rattle.search.specs.declared.SearchAnswer.{SearchAnswer}
-use Rattle.search.specs.Search.{slots_of, Says, named, answer_of, search_answer}
+use Rattle.search.specs.Search.{slots_of, named, answer_of, search_answer}
 use Rattle.search.specs.inner.Demand.{Names, Nothing, Carries, Demand}
 use Rattle.search.proofs.Checks.{searched}
 use Rattle.search.proofs.Premises.{Accepted, accepted-premises, ends-valid}
@@ -78,19 +78,19 @@ module _ (log : Log) (formula : Formula) (P : Premises log formula) (slots start
   same-end false true q = cc
   same-end false false q = refl
 
-  verdict-absent : (a : Answer (machine log formula)) → Runs.Demand (machine log formula) slots start a → Says (answer_of log formula a) Absent
+  verdict-absent : (a : Answer (machine log formula)) → Runs.Demand (machine log formula) slots start a → IsOkAnd (answer_of log formula a) (λ s. s.verdict ≡ Absent)
       → Nothing log formula slots start
   verdict-absent (found c t w) d e = absurd (ends-not-absent (accepting formula c) e)
   verdict-absent (absent w) d e = record { width = w; absent = d }
   verdict-absent (crowded m) d e = absurd e
 
   verdict-named : (a : Answer (machine log formula)) (b : Bool) → Runs.Demand (machine log formula) slots start a
-      → Says (answer_of log formula a) (cond b Accept Reject) → Names log formula slots start b
+      → IsOkAnd (answer_of log formula a) (λ s. s.verdict ≡ cond b Accept Reject) → Names log formula slots start b
   verdict-named (found c t w) b d e = record { config = c; trail = t; width = w; named = d; kind = same-end (accepting formula c) b e }
   verdict-named (absent w) b d e = absurd (ends-not-absent b (sym e))
   verdict-named (crowded m) b d e = absurd e
 
-  named-verdict : (b : Bool) → Names log formula slots start b → Says given (cond b Accept Reject)
+  named-verdict : (b : Bool) → Names log formula slots start b → IsOkAnd given (λ s. s.verdict ≡ cond b Accept Reject)
   named-verdict b n = rw (is-answer (found n.config n.trail n.width) n.named, n.kind)
 
   named-carries : (c : Config) (t : Trail) (w : ℕ) → Runs.Named (machine log formula) slots start c t w

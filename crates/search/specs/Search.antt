@@ -1,5 +1,5 @@
 -- "Search and analysis": the answer of a search, from the bytes of the two files, the start and the number of lent work words.
-use Rattle.std.specs.Prelude.{ℕ, ◌/◌, ◌≡◌, min, false, cond, List, [], length, leb, ltb, Result, Ok, Err, IsOkAnd}
+use Rattle.std.specs.Prelude.{ℕ, ◌/◌, min, false, cond, List, [], length, leb, ltb, Result, Ok, Err}
 use Rattle.base.specs.Lists.{pad}
 use Rattle.refusal.specs.declared.Refusal.{Refusal}
 use Rattle.refusal.specs.declared.Refusal.TheVariants.{Outside, Short, Crowded}
@@ -13,7 +13,6 @@ use Rattle.runs.specs.inner.Search.{search}
 use Rattle.runs.specs.Answer.{Answer, found, absent, crowded}
 use Rattle.machine.specs.Configuration.{Config}
 use Rattle.machine.specs.Machine.{machine, accepting}
-use Rattle.search.specs.declared.Verdict.{Verdict}
 use Rattle.search.specs.declared.Verdict.TheVariants.{Absent, Accept, Reject}
 use Rattle.search.specs.declared.SearchAnswer.{SearchAnswer}
 
@@ -28,15 +27,6 @@ without width = record { verdict = Absent; steps = 0; events = pad 32 0 []; numb
 -- a refusal names file, number and place, and nothing else
 abbrev pub refusal : Refusal → Result SearchAnswer Refusal
 refusal r = Err r
-
--- an answer that is not refused says none, accept or reject
-abbrev pub Says : Result SearchAnswer Refusal → Verdict → Type 0
-Says r v = IsOkAnd r (λ a. a.verdict ≡ v)
-
--- what an answer tells beside that; a refused one tells nothing
-abbrev pub tells : Result SearchAnswer Refusal → SearchAnswer
-tells (Ok a) = a
-tells (Err r) = without 0
 
 -- an answer that names a run: where it ends, its trail
 abbrev pub named : Formula → Config → Trail → ℕ → SearchAnswer

@@ -14,7 +14,7 @@ use Rattle.machine.specs.Firing.{is_held, value_of}
 use Rattle.machine.specs.Machine.{machine, accepting}
 use Rattle.search.specs.declared.Verdict.TheVariants.{Absent, Accept, Reject}
 use Rattle.search.specs.declared.SearchAnswer.{SearchAnswer}
-use Rattle.search.specs.Search.{without, refusal, Says}
+use Rattle.search.specs.Search.{without, refusal}
 
 -- a log and a formula, so many slots (the paper's seats), a start
 module _ (g : Log) (f : Formula) (slots start : ℕ) where
@@ -49,10 +49,10 @@ module _ (g : Log) (f : Formula) (slots start : ℕ) where
     -- a refusal names file, number and place, and nothing else
     pub refused : (n : ℕ) → FirstCrowded (machine g f) slots start n → s ≡ refusal (Crowded n)
     -- "Otherwise the search gives accept or reject with the least run"
-    pub accept : Says s Accept ↔ Names true
-    pub reject : Says s Reject ↔ Names false
+    pub accept : IsOkAnd s (λ a. a.verdict ≡ Accept) ↔ Names true
+    pub reject : IsOkAnd s (λ a. a.verdict ≡ Reject) ↔ Names false
     pub run : (c : Config) (t : Trail) (w : ℕ) → Runs.Named (machine g f) slots start c t w → IsOkAnd s (λ a. Carries a c t w)
     -- "or none"
-    pub none : Says s Absent ↔ Nothing
+    pub none : IsOkAnd s (λ a. a.verdict ≡ Absent) ↔ Nothing
     -- "unused entries 0", "It also carries the width"
     pub nothing : (w : ℕ) → Runs.Absent (machine g f) slots start w → s ≡ Ok (without w)
