@@ -14,6 +14,13 @@ struct Judged {
 }
 
 impl Judged {
+    // A judgement of an expression of so many bytes.
+    fn new(yes: bool, used: usize) -> Judged
+        ensures { result ≡ judgement yes used }
+    {
+        Judged { yes, used }
+    }
+
     // A command of two operands that are both so.
     fn pair(self, b: Judged) -> Judged
         requires { 1 + self.used + b.used < 2 ^ 64 }
@@ -77,57 +84,89 @@ fn marked(part: &[u8], marks: &Marks) -> bool
     }
 }
 
-// Whether the expression at the front is so, rising or falling: `own` marks the leaves that are, `other` those that are the other.
+// Whether the expression at the front is rising; `grows` marks the leaves that are.
+#[cycle(falling_at_rising_at)]
 #[tactic(auto, using(crate::proofs::GuardOnBytes::operands_inside))]
-fn trend_at(part: &[u8], own: &Marks, other: &Marks, depth: usize) -> Judged
-    ensures judged { result ≡ trend_at depth (leaf_marked own.now) (leaf_marked other.now) part.now }
+fn rising_at(part: &[u8], held: &Marks, grows: &Marks, depth: usize) -> Judged
+    ensures judged { result ≡ trend_at depth (leaf_marked grows.now) (leaf_marked held.now) part.now }
     ensures within { result.used ≤ length part.now }
 {
     if depth == 0 {
-        return Judged {
-            yes: false,
-            used: 0,
-        };
+        return Judged::new(false, 0);
     }
     let command = base::byte_at(part, 0);
     let operands = operand_count(command);
     if operands == 0 {
-        return Judged {
-            yes: marked(part, own),
-            used: leaf_used(part),
-        };
+        return Judged::new(marked(part, grows), leaf_used(part));
     }
     let inner = depth - 1;
     let first = &part[1..];
     if turns(command) {
-        let a = trend_at(first, other, own, inner);
+        let a = falling_at(first, held, grows, inner);
         if operands == 1 {
-            return Judged {
-                used: 1 + a.used,
-                ..a
-            };
+            return Judged::new(a.yes, 1 + a.used);
         }
-        return a.pair(trend_at(&first[a.used..], own, other, inner));
+        return a.pair(rising_at(&first[a.used..], held, grows, inner));
     }
-    let a = trend_at(first, own, other, inner);
+    let a = rising_at(first, held, grows, inner);
     let second = &first[a.used..];
     if command == SUB {
-        return a.pair(trend_at(second, other, own, inner));
+        return a.pair(falling_at(second, held, grows, inner));
     }
-    let b = trend_at(second, own, other, inner);
+    let b = rising_at(second, held, grows, inner);
     if keeps(command) {
         return a.pair(b);
     }
-    let c = a.agree(trend_at(first, other, own, inner));
+    let c = a.agree(falling_at(first, held, grows, inner));
     if command == EQUAL {
-        return c.pair(b.agree(trend_at(second, other, own, inner)));
+        return c.pair(b.agree(falling_at(second, held, grows, inner)));
     }
-    c.triple(b, trend_at(&second[b.used..], own, other, inner))
+    c.triple(b, rising_at(&second[b.used..], held, grows, inner))
+}
+
+// Whether it is falling; `held` marks the leaves that are.
+#[cycle(falling_at_rising_at)]
+#[tactic(auto, using(crate::proofs::GuardOnBytes::operands_inside))]
+fn falling_at(part: &[u8], held: &Marks, grows: &Marks, depth: usize) -> Judged
+    ensures judged { result ≡ trend_at depth (leaf_marked held.now) (leaf_marked grows.now) part.now }
+    ensures within { result.used ≤ length part.now }
+{
+    if depth == 0 {
+        return Judged::new(false, 0);
+    }
+    let command = base::byte_at(part, 0);
+    let operands = operand_count(command);
+    if operands == 0 {
+        return Judged::new(marked(part, held), leaf_used(part));
+    }
+    let inner = depth - 1;
+    let first = &part[1..];
+    if turns(command) {
+        let a = rising_at(first, held, grows, inner);
+        if operands == 1 {
+            return Judged::new(a.yes, 1 + a.used);
+        }
+        return a.pair(falling_at(&first[a.used..], held, grows, inner));
+    }
+    let a = falling_at(first, held, grows, inner);
+    let second = &first[a.used..];
+    if command == SUB {
+        return a.pair(rising_at(second, held, grows, inner));
+    }
+    let b = falling_at(second, held, grows, inner);
+    if keeps(command) {
+        return a.pair(b);
+    }
+    let c = a.agree(rising_at(first, held, grows, inner));
+    if command == EQUAL {
+        return c.pair(b.agree(rising_at(second, held, grows, inner)));
+    }
+    c.triple(b, falling_at(&second[b.used..], held, grows, inner))
 }
 
 // Whether the guard at an offset is falling; where none stands, none falls.
 pub fn guard_falls(f: &[u8], at: usize, held: Marks, grows: Marks) -> bool
     ensures { result ≡ falls_at (leaf_marked held) (leaf_marked grows) f.now at }
 {
-    base::byte_at(f, at) == GUARD && trend_at(&f[at + 1..], &held, &grows, 8).yes
+    base::byte_at(f, at) == GUARD && falling_at(&f[at + 1..], &held, &grows, 8).yes
 }
