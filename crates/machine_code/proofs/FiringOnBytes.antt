@@ -4,13 +4,11 @@ use mathlib.Core.Path.{◌≡◌, refl, ap, sym, ◌∙◌}
 use mathlib.Core.Bool.{Bool, true, false, cond}
 use mathlib.Core.List.{List, [], ◌∷◌, ◌++◌, append_assoc, append-nil, flat_map, map}
 use mathlib.Core.Option.{Option, none, some}
-use Rattle.std.specs.Prelude as std
-use Rattle.std.specs.Prelude.{None}
 use native.Mathlib.Omega.{arith}
 use borrow.Author.Tests.{le-leb, lt-leb, ne_eqb}
 use lib.ListN.{length, get_or, drop, replicate, length-drop, length-append}
 use Rattle.base.proofs.Lists.{replicate-at}
-use Rattle.base.specs.Lists.{All, some_if}
+use Rattle.base.specs.Lists.{All}
 use Rattle.event_log.specs.Log.{Kind, Values}
 use Rattle.formula.specs.Formula.{Expr, Clause, Step, Formula}
 use Rattle.formula.specs.Encode.{CLAUSE, encode_expr, encode_clause, encode_command, guard_commands, step_commands}
@@ -39,24 +37,22 @@ use Rattle.machine_code.proofs.WalkOnBytes.{byte-from, first_byte, drop_more, wa
 use Rattle.machine_code.proofs.WalkOnBytes.{Agrees, Along, along}
 use Rattle.machine_code.proofs.GainingOnBytes.{gains-by, gain_all, gain-encode, gain-tallies}
 
--- the configuration that is left, if the step fires
-abbrev pub outcome : List ℕ → ℕ → Configuration → List Bool → Values → std.Option Configuration
-outcome f at c fresh event = some_if (fired f at c fresh event).fires (fired f at c fresh event).config
-
-pub fired-out : (f : List ℕ) (at : ℕ) (c : Configuration) (fresh : List Bool) (event : Values) → length f ≤ at → None ≡ outcome f at c fresh event
+pub fired-out : (f : List ℕ) (at : ℕ) (c : Configuration) (fresh : List Bool) (event : Values) → length f ≤ at
+    → record { fires = false; config = c } ≡ fired f at c fresh event
 unfolding fired
 fired-out f at c fresh event h = rw (le-leb (length f) at h)
 
 -- inside the file: the guard decides where every test passes
 module _ (f : List ℕ) (at : ℕ) (c : Configuration) (fresh : List Bool) (event : Values) (in-file : at < length f) where
-  pub fired-failed : (walked f at c (replicate 8 false) event).passes ≡ false → None ≡ outcome f at c fresh event
+  pub fired-failed : (walked f at c (replicate 8 false) event).passes ≡ false
+      → record { fires = false; config = c } ≡ fired f at c fresh event
   unfolding fired
   fired-failed h = rw (lt-leb (length f) at in-file, h)
 
   pub fired-guard : (w : Walked) (counters : List ℕ) (t : ℕ) (g : Gained) (b : Bool) → w ≡ walked f at c (replicate 8 false) event → w.passes ≡ true
       → counters ≡ raised c.counters c.state → t ≡ get_or f (at + 1) 0
       → g ≡ cond w.gathers (gained f at c.tallies fresh (replicate 8 false) event) (kept c.tallies) → b ≡ guard_behind f w counters g.tallies
-      → some_if b (leaving t w counters g.tallies) ≡ outcome f at c fresh event
+      → record { fires = b; config = leaving t w counters g.tallies } ≡ fired f at c fresh event
   unfolding fired
   fired-guard w counters t g b walk h raise target e q =
       let p = gains-by f at c fresh (replicate 8 false) event w g walk e in

@@ -8,8 +8,7 @@ use native.Mathlib.Omega.{arith}
 use borrow.Author.Tests.{lt-ltb, le-ltb, ltb-true, ltb-false, ne_eqb, eqb-true, eqb-false}
 use lib.ListN.{length, get_or}
 use lib.Dec.{eqb, ltb}
-use Rattle.std.specs.Prelude as std
-use Rattle.std.specs.Prelude.{Some, None, MatchOption}
+use Rattle.std.specs.Prelude.{Some, None}
 use Rattle.base.specs.Lists.{some_below}
 use Rattle.event_log.specs.Log.{Log, event_at, Values}
 use Rattle.event_log.specs.Latest.{latest_at}
@@ -139,19 +138,20 @@ not-below a b n = go (ltb a b) refl
     go false e = ltb-false a b e
 
 -- So does a search over the numbers in their order that stops at the first that passes.
-pub lowest-found : (p : ℕ → Bool) (r : std.Option ℕ)
-    → MatchOption r ((j : ℕ) → 0 ≤ j → j < 8 → p j ≡ false) (λ k. (0 ≤ k) × (k < 8) × (p k ≡ true) × ((j : ℕ) → 0 ≤ j → j < k → p j ≡ false))
-    → r ≡ some_below 8 (lowest_of p)
-lowest-found p None h =
-    let l = lowest-means p in
-    let n : 8 ≤ lowest_of p = not-below (lowest_of p) 8 (λ i. true≢false (sym (l.here i) ∙ h _ (omega arith) i)) in
-    rw (le-ltb (lowest_of p) 8 n)
-lowest-found p (Some k) h =
-    let l = lowest-means p in
-    let a = not-below k (lowest_of p) (λ i. true≢false (sym h.2 ∙ l.before k i)) in
-    let b = not-below (lowest_of p) k (λ i. true≢false (sym (l.here (omega (arith, h.1))) ∙ h.3 _ (omega arith) i)) in
-    let e : lowest_of p ≡ k = omega (arith, a, b) in
-    rw (e, lt-ltb k 8 h.1)
+module _ (p : ℕ → Bool) where
+  pub lowest-none : ((j : ℕ) → j < 8 → p j ≡ false) → None ≡ some_below 8 (lowest_of p)
+  lowest-none h =
+      let l = lowest-means p in
+      let n : 8 ≤ lowest_of p = not-below (lowest_of p) 8 (λ i. true≢false (sym (l.here i) ∙ h _ i)) in
+      rw (le-ltb (lowest_of p) 8 n)
+
+  pub lowest-some : (k : ℕ) → k < 8 → p k ≡ true → ((j : ℕ) → j < k → p j ≡ false) → Some k ≡ some_below 8 (lowest_of p)
+  lowest-some k m q h =
+      let l = lowest-means p in
+      let a = not-below k (lowest_of p) (λ i. true≢false (sym q ∙ l.before k i)) in
+      let b = not-below (lowest_of p) k (λ i. true≢false (sym (l.here (omega arith)) ∙ h _ i)) in
+      let e : lowest_of p ≡ k = omega (arith, a, b) in
+      rw (e, lt-ltb k 8 m)
 
 -- "the lowest numbered step that fires": the code's answer is the machine's lowest step that fires, 8 where none does.
 pub lowest-machine : (log : Log) (formula : Formula) (fields : ℕ) (f table : List ℕ) → Charted fields formula f table

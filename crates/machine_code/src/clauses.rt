@@ -46,7 +46,7 @@ pub fn is_clause(f: &[u8], at: usize) -> bool
 impl Walked {
     // A walk begins behind the STEP and its target, with what the configuration holds.
     #[tactic(auto, unfolding(crate::specs::inner::Bytes::begun))]
-    fn begin(at: usize, c: &Configuration) -> Walked
+    pub fn begin(at: usize, c: &Configuration) -> Walked
         requires { at + 2 < 2 ^ 64 }
         ensures { result ≡ begun at c.now }
     {
@@ -134,7 +134,7 @@ impl Scene<'_> {
 
     // The clause where the walk stands; one of an absent field keeps the step from firing.
     #[tactic(auto, unfolding(crate::specs::inner::Bytes::clause_at, crate::specs::inner::Bytes::met))]
-    fn clause(&self, w: &mut Walked)
+    pub fn clause(&self, w: &mut Walked)
         requires { w.old.at < length self.now.f.now }
         ensures { w.new ≡ clause_at self.now.f.now self.now.c.now.values self.now.rises.now self.now.fields w.old }
     {

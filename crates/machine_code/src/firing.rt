@@ -1,8 +1,7 @@
 // Whether a step fires on an event, and the configuration that it leaves.
-ghost use Rattle.std.specs.Prelude.{◌≡◌, false, replicate};
-ghost use Rattle.base.specs.Lists.{some_if};
+ghost use Rattle.std.specs.Prelude.{◌≡◌, ◌<◌, false, cond, length, replicate};
 ghost use Rattle.event_log.specs.Arrays.{in_event};
-ghost use Rattle.machine_code.specs.inner.Bytes.{raised, fired};
+ghost use Rattle.machine_code.specs.inner.Bytes.{kept, gained, raised, guard_behind, fired, firing_of};
 
 use crate::readings::Fields;
 use crate::{Configuration, Gained, Scene, Walked};
@@ -23,15 +22,17 @@ pub fn raise(counters: [u32; 16], s: u32) -> [u32; 16]
 }
 
 impl Scene<'_> {
-    // The configuration that the STEP at an offset leaves, if it fires; `rises` marks no field.
-    pub fn fire(&self, at: usize) -> Option<Configuration>
+    // Whether the STEP at an offset fires, and the configuration that it leaves: Ok where it fires, else Err. `rises` marks no field.
+    fn fire(&self, at: usize) -> Result<Configuration, Configuration>
         requires { self.now.rises.now ≡ replicate 8 false }
-        ensures { result ≡ some_if (fired self.now.f.now at self.now.c.now self.now.fresh.now self.now.fields).fires (fired self.now.f.now at self.now.c.now self.now.fresh.now self.now.fields).config }
+        ensures { result ≡ firing_of (fired self.now.f.now at self.now.c.now self.now.fresh.now self.now.fields) }
     {
         if self.f.len() <= at {
-            return None;
+            return Err(*self.c);
         }
-        let w = self.walk(at, |w| !w.passes)?;
+        let Some(w) = self.walk(at, |w| !w.passes) else {
+            return Err(*self.c);
+        };
         let Gained { tallies, .. } = self.gains(at, &w);
         let Walked {
             at: end,
@@ -40,16 +41,42 @@ impl Scene<'_> {
             ..
         } = w;
         let counters = raise(self.c.counters, self.c.state);
-        if !guard_holds(self.f, end, values, counters, tallies) {
-            return None;
-        }
-        Some(Configuration {
+        let config = Configuration {
             state: base::byte_at(self.f, at + 1),
             held,
             values,
             counters,
             tallies,
-        })
+        };
+        if guard_holds(self.f, end, values, counters, tallies) {
+            Ok(config)
+        } else {
+            Err(config)
+        }
+    }
+
+    // Whether the guard behind a walk of the STEP at an offset holds, by what the step gathers and the counters raised.
+    pub fn holds(&self, at: usize, w: &Walked, counters: &[u32; 16]) -> bool
+        requires { at < length self.now.f.now }
+        ensures { result ≡ guard_behind self.now.f.now w.now counters.now (cond w.now.gathers (gained self.now.f.now at self.now.c.now.tallies self.now.fresh.now self.now.rises.now self.now.fields) (kept self.now.c.now.tallies)).tallies }
+    {
+        let gained = self.gains(at, w);
+        guard_holds(self.f, w.at, w.values, *counters, gained.tallies)
+    }
+
+    // Whether the STEP at an offset fires: the same as of `fire`, without the configuration that it leaves.
+    fn passes(&self, at: usize) -> bool
+        requires { self.now.rises.now ≡ replicate 8 false }
+        ensures { result ≡ (fired self.now.f.now at self.now.c.now self.now.fresh.now self.now.fields).fires }
+    {
+        if self.f.len() <= at {
+            return false;
+        }
+        let Some(w) = self.walk(at, |w| !w.passes) else {
+            return false;
+        };
+        let counters = raise(self.c.counters, self.c.state);
+        self.holds(at, &w, &counters)
     }
 }
 
@@ -78,22 +105,22 @@ impl<'a> Scene<'a> {
     }
 }
 
-// The configuration that the STEP at an offset leaves on an event, if it fires.
+// Whether the STEP at an offset fires on an event, and the configuration that it leaves: Ok where it fires, else Err.
 pub fn fire(
     f: &[u8],
     at: usize,
     c: Configuration,
     fresh: [bool; 32],
     event: Event,
-) -> Option<Configuration>
-    ensures { result ≡ some_if (fired f.now at c fresh (in_event event)).fires (fired f.now at c fresh (in_event event)).config }
+) -> Result<Configuration, Configuration>
+    ensures { result ≡ firing_of (fired f.now at c fresh (in_event event)) }
 {
     Scene::on_event(f, &c, &fresh, &event).fire(at)
 }
 
-// Whether the STEP at an offset fires on an event.
+// Whether the STEP at an offset fires on an event: the same as of `fire`, without the configuration that it leaves.
 pub fn passes(f: &[u8], at: usize, c: Configuration, fresh: [bool; 32], event: Event) -> bool
     ensures { result ≡ (fired f.now at c fresh (in_event event)).fires }
 {
-    Scene::on_event(f, &c, &fresh, &event).fire(at).is_some()
+    Scene::on_event(f, &c, &fresh, &event).passes(at)
 }

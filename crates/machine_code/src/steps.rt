@@ -4,8 +4,10 @@ ghost use Rattle.base.specs.Lists.{some_below};
 ghost use Rattle.event_log.specs.Arrays.{in_event, in_latest};
 ghost use Rattle.machine_code.specs.inner.Bytes.{offset_of, is_step, fires_at, lowest_of, expires_at, alive_below};
 
+use crate::clauses::is_clause;
+use crate::firing::raise;
 use crate::readings::Fields;
-use crate::{Configuration, Scene};
+use crate::{Configuration, Scene, Walked};
 use event_log::{Event, Latest};
 
 // Where step k of state s stands, 0 where there is none, as in the table (`offset_of`).
@@ -29,17 +31,7 @@ fn is_step(f: &[u8], at: usize) -> bool
 }
 
 impl Scene<'_> {
-    // Whether step k of the configuration's state fires.
-    #[tactic(auto, unfolding(crate::specs::inner::Bytes::fires_at))]
-    fn fires(&self, table: &[usize], k: usize) -> bool
-        requires { self.now.rises.now ≡ replicate 8 false }
-        ensures { result ≡ fires_at self.now.f.now table.now self.now.c.now self.now.fresh.now self.now.fields k }
-    {
-        let at = step_offset(table, self.c.state, k);
-        is_step(self.f, at) && self.fire(at).is_some()
-    }
-
-    // Whether it is expired, as is one that is not there.
+    // Whether step k of the configuration's state is expired, as is one that is not there.
     #[tactic(auto, unfolding(crate::specs::inner::Bytes::expires_at))]
     fn expires(&self, table: &[usize], k: usize) -> bool
         ensures { result ≡ expires_at self.now.f.now table.now self.now.c.now self.now.fresh.now self.now.rises.now self.now.fields k }
@@ -53,7 +45,26 @@ impl Scene<'_> {
         requires { self.now.rises.now ≡ replicate 8 false }
         ensures { result ≡ some_below 8 (lowest_of (fires_at self.now.f.now table.now self.now.c.now self.now.fresh.now self.now.fields)) }
     {
-        (0..8).find(|k| self.fires(table, *k))
+        let counters = raise(self.c.counters, self.c.state);
+        'steps: {
+            'step: for k in 0..8 {
+                let at = step_offset(table, self.c.state, k);
+                if !is_step(self.f, at) {
+                    continue;
+                }
+                let mut w = Walked::begin(at, self.c);
+                while is_clause(self.f, w.at) {
+                    self.clause(&mut w);
+                    if !w.passes {
+                        continue 'step;
+                    }
+                }
+                if self.holds(at, &w, &counters) {
+                    break 'steps Some(k);
+                }
+            }
+            None
+        }
     }
 
     // Whether some step of the configuration's state is not expired.

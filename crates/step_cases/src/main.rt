@@ -117,7 +117,7 @@ impl<'a> Case<'a> {
             [true; 32],
             event(time, 1),
         );
-        println!(rt; "{} {} {}", self.name, Time(time), word(fired.is_some()))
+        println!(rt; "{} {} {}", self.name, Time(time), word(fired.is_ok()))
     }
 
     // The same with the time 0 and without.
@@ -222,7 +222,7 @@ fn show_fires(
         \x11\x02\x12\x01\x00\x00\x00\x00\x02\
         \x10\x02\x00";
     let fired = machine_code::firing::fire(f, at, from, [true; 32], event(Some(time), code));
-    println!(rt; "fires at {at} {}", word(fired.is_some()))
+    println!(rt; "fires at {at} {}", word(fired.is_ok()))
 }
 
 // No test of an absent time holds, unequal neither.

@@ -58,16 +58,18 @@ impl Scene<'_> {
     {
         let config = &t.config;
         let fresh = self.fresh_at(t, &self.moment.event.values);
-        for k in 0..8 {
-            if !self.may(config.state, &config.held, &config.values, k, ends) {
-                continue;
+        'steps: {
+            for k in 0..8 {
+                if !self.may(config.state, &config.held, &config.values, k, ends) {
+                    continue;
+                }
+                let at = step_offset(self.table, config.state, k as usize);
+                if passes(self.formula, at, *config, fresh, self.moment.event) {
+                    break 'steps Some(k);
+                }
             }
-            let at = step_offset(self.table, config.state, k as usize);
-            if passes(self.formula, at, *config, fresh, self.moment.event) {
-                return Some(k);
-            }
+            None
         }
-        None
     }
 
     // Step k of a thread's state on the event: the thread in the configuration that it leaves, its trail as before, if it fires.
@@ -79,7 +81,7 @@ impl Scene<'_> {
             return None;
         }
         let fresh = self.fresh_at(t, &self.moment.event.values);
-        let config = fire(self.formula, at, t.config, fresh, self.moment.event)?;
+        let config = fire(self.formula, at, t.config, fresh, self.moment.event).ok()?;
         Some(Thread { config, ..*t })
     }
 

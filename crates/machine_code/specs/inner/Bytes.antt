@@ -1,5 +1,5 @@
 -- What the code computes on any bytes, well formed or not: a twin of each definition on byte lists.
-use Rattle.std.specs.Prelude.{ℕ, zero, suc, ◌+◌, ◌-◌, ◌*◌, min, Bool, true, false, not, ◌&&◌, ◌||◌, cond, List, length, get_or, set, replicate, ltb, leb, eqb}
+use Rattle.std.specs.Prelude.{ℕ, zero, suc, ◌+◌, ◌-◌, ◌*◌, min, Bool, true, false, not, ◌&&◌, ◌||◌, cond, List, length, get_or, set, replicate, ltb, leb, eqb, Result, Ok, Err}
 use Rattle.base.specs.Value.{value_at}
 use Rattle.event_log.specs.Log.{Values, present, field}
 use Rattle.machine_code.specs.declared.Configuration.{Configuration}
@@ -180,6 +180,10 @@ guard_behind f w counters ts = guard_at (leaf_value w.values counters ts) f w.at
 pub record Firing : Type 0 where
   pub fires : Bool
   pub config : Configuration
+
+-- the same as an answer: the configuration that it leaves, Ok where it fires, else Err
+abbrev pub firing_of : Firing → Result Configuration Configuration
+firing_of x = cond x.fires (Ok x.config) (Err x.config)
 
 -- a step that a clause keeps from firing leaves the configuration
 abbrev pub fired_by : List ℕ → ℕ → Configuration → Walked → List ℕ → List ℕ → Firing

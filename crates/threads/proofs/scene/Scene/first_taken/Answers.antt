@@ -47,8 +47,8 @@ returns-then-passes c =
           (sym c.passes.ensures ∙ c.if-passes.true)),
     )
 
-pub returns : goal.returns
-returns c =
+pub returns-after-loop-k : goal.returns-after-loop-k
+returns-after-loop-k c =
     let a = c.args in
     let n = c.fresh_at-fresh in
     passed-all a.self.now a.t.now n.result a.ends 8 (λ k h. c.loop-k.invariant k (omega arith)) n.ensures
