@@ -31,7 +31,8 @@ pub fn bits_of(number: u32, m: usize) -> [bool; 8]
 {
     let mut bits = [false; 8];
     let mut rest = number;
-    for k in 0..m {
+    // that m is at most 8 is told again, for the compiler: it then unrolls the loop
+    for k in 0..m.min(8) {
         bits[k] = rest % 2 == 1;
         rest /= 2;
     }
